@@ -1,0 +1,61 @@
+ghost use mathlib.Core.List.{[]};
+ghost use mathlib.Core.Path.{_≡_};
+ghost use Prim.Native.Nat.{min};
+ghost use lib.ListN.{length};
+ghost use Rattle.std.specs.Vec.{made};
+ghost use Rattle.table.specs.Shelf.{Shelf, shelf, empty, put, cut, Told, told};
+use super::Full;
+use super::Table;
+use std::alloc::AllocError;
+use std::alloc::Global;
+
+impl<T, const MAX: usize> Table<T, MAX> {
+    /// An empty table of the given limit; a limit over the maximum counts as the maximum.
+    pub fn with_limit(heap: Global, limit: usize) -> Result<Table<T, MAX>, AllocError>
+        ensures { λ r. ⌜ made r (λ t. shelf t ≡ empty (min limit MAX)) ⌝ }
+    {
+        let limit = limit.min(MAX);
+        let items = Vec::with_capacity(heap, limit)?;
+        Ok(Table { items, limit })
+    }
+
+    pub fn limit(&self) -> usize
+        ensures { λ r. ⌜ r ≡ shelf (now (self .entry)) .limit ⌝ }
+    {
+        self.limit
+    }
+
+    pub fn len(&self) -> usize
+        ensures { λ r. ⌜ r ≡ length (shelf (now (self .entry)) .items) ⌝ }
+    {
+        self.items.len()
+    }
+
+    pub fn as_slice(&self) -> &[T]
+        ensures { λ r. ⌜ now r ≡ shelf (now (self .entry)) .items ⌝ }
+    {
+        self.items.as_slice()
+    }
+
+    /// One more item, or a refusal where the limit is reached, which changes nothing.
+    pub fn push(&mut self, item: T) -> Result<(), Full>
+    where
+        T: Drop,
+        ensures { λ r. ⌜ told (shelf (now (self .exit))) r ≡ put item (shelf (now (self .entry))) ⌝ }
+    {
+        if self.len() == self.limit {
+            return Err(Full);
+        }
+        self.items.push_reserved(item);
+        Ok(())
+    }
+
+    /// Takes back what stands behind the first `len` items.
+    pub fn truncate(&mut self, len: usize)
+    where
+        T: Drop,
+        ensures { λ _. ⌜ shelf (now (self .exit)) ≡ cut len (shelf (now (self .entry))) ⌝ }
+    {
+        self.items.truncate(len);
+    }
+}

@@ -1,0 +1,4 @@
+pub mod View
+pub mod Names
+pub mod Template
+pub mod Lawful

@@ -1,6 +1,8 @@
 // A new elaboration: thirteen tables of any content, and the test that they are lawful.
 mod checks;
+mod keeps;
 mod making;
+mod named;
 mod names;
 mod template;
 

@@ -30,7 +30,7 @@ impl Template {
     }
 }
 
-impl Grammar for Template as TemplateGrammar {
+pub(crate) impl Grammar for Template as TemplateGrammar {
     type Node = Source;
 
     ghost rules = { λ t. template-rules (t .arity) };

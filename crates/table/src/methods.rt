@@ -2,7 +2,9 @@ ghost use mathlib.Core.List.{[]};
 ghost use mathlib.Core.Path.{_≡_};
 ghost use Prim.Native.Nat.{min};
 ghost use lib.ListN.{length};
+ghost use Rattle.std.specs.Options.{mapped};
 ghost use Rattle.std.specs.Vec.{made};
+ghost use Rattle.std.specs.shelf.Maps.{nth};
 ghost use Rattle.table.specs.Shelf.{Shelf, shelf, empty, put, cut, Told, told};
 use super::Full;
 use super::Table;
@@ -35,6 +37,17 @@ impl<T, const MAX: usize> Table<T, MAX> {
         ensures { λ r. ⌜ now r ≡ shelf (now (self .entry)) .items ⌝ }
     {
         self.items.as_slice()
+    }
+
+    /// The item at a place, if there is one.
+    pub fn get(&self, i: usize) -> Option<&T>
+        ensures { λ r. ⌜ mapped now r ≡ nth (shelf (now (self .entry)) .items) i ⌝ }
+    {
+        if i < self.len() {
+            Some(&self.items[i])
+        } else {
+            None
+        }
     }
 
     /// One more item, or a refusal where the limit is reached, which changes nothing.

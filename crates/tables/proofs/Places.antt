@@ -53,6 +53,9 @@ module _ {X : Type 0} (xs : List X) (i : ℕ) (P : X → Type 0) where
   pub nowhere : None ≡ nth xs i → IfAt xs i P
   nowhere e x e′ = absurd (some-none (sym (e ∙ e′)))
 
+  pub behind : length xs ≤ i → IfAt xs i P
+  behind h = nowhere (sym (nth-past xs i h))
+
   -- the same where the first `n` places have to be taken
   pub here-needed : (n : ℕ) (x : X) → Some x ≡ nth xs i → (r : Bool) → Decides r (P x) → Decides r ((i < n → i < length xs) × IfAt xs i P)
   here-needed n x e r d =

@@ -1,6 +1,6 @@
 // Whether tables are lawful, and which record is the first bad one.
 ghost use mathlib.Core.Path.{_≡_};
-ghost use Prim.Native.Nat.{ℕ, _<_};
+ghost use Prim.Native.Nat.{ℕ, _<_, _≤_};
 ghost use Rattle.std.specs.Orderings.{Decides};
 ghost use Rattle.std.specs.Options.{Cases};
 ghost use Rattle.std.specs.Results.{Cases as ByOk};
@@ -56,5 +56,58 @@ impl Tables {
             Some(symbol) => self.is_good_symbol(i, *symbol),
             None => i >= BUILTINS,
         }
+    }
+
+    /// Whether record `i` of a table keeps the rules, where those before it do.
+    fn keeps(&self, table: TableId, i: usize) -> bool
+        requires { ⌜ ((j : ℕ) → j < i → Keeps (view (now self)) table j) ⌝ }
+        ensures { λ r. ⌜ Decides r (Keeps (view (now (self .entry))) table i) ⌝ }
+    {
+        match table {
+            TableId::Types => self.type_keeps(i),
+            TableId::Constants => self.constant_keeps(i),
+            TableId::Terms => self.term_keeps(i),
+            TableId::Source => self.source_keeps(i),
+            TableId::Symbols => self.symbol_keeps(i),
+            _ => true,
+        }
+    }
+
+    /// Up to which record a table has to be looked at.
+    fn looked_at(&self, table: TableId) -> usize
+        ensures { λ r. ⌜ ((j : ℕ) → r ≤ j → Keeps (view (now (self .entry))) table j) ⌝ }
+    {
+        match table {
+            TableId::Types => self.types.len().max(BUILTINS),
+            TableId::Constants => self.constants.len(),
+            TableId::Terms => self.terms.len(),
+            TableId::Source => self.source.len(),
+            TableId::Symbols => self.symbols.len().max(BUILTINS),
+            _ => 0,
+        }
+    }
+
+    /// The first record of a table that breaks a rule.
+    fn first_bad(&self, table: TableId) -> Option<usize>
+        ensures { λ r. ⌜ Cases r ((j : ℕ) → Keeps (view (now (self .entry))) table j) (λ i. ((j : ℕ) → j < i → Keeps (view (now (self .entry))) table j) × (Keeps (view (now (self .entry))) table i → ⊥)) ⌝ }
+    {
+        for i in 0..self.looked_at(table) {
+            if !self.keeps(table, i) {
+                return Some(i);
+            }
+        }
+        None
+    }
+
+    /// Whether the tables are lawful; if not, which table breaks a rule first, and at which record.
+    pub fn check(&self) -> Result<(), Refusal>
+        ensures { λ r. ⌜ ByOk r (λ _. Lawful (view (now (self .entry)))) (λ e. Names (view (now (self .entry))) e) ⌝ }
+    {
+        for table in TableId::ALL {
+            if let Some(record) = self.first_bad(table) {
+                return Err(Refusal::UnlawfulTable { table, record });
+            }
+        }
+        Ok(())
     }
 }

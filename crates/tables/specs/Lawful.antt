@@ -37,7 +37,7 @@ use Rattle.records.specs.declared.source.Pattern.the-variants as pattern
 use Rattle.records.specs.declared.source.Source.{Source}
 use Rattle.tables.specs.Names.{Inside, New, bytes, builtin-names}
 use Rattle.tables.specs.Template.{template-rules}
-use Rattle.tables.specs.View.{View}
+use Rattle.tables.specs.View.{Env}
 
 -- what holds of the i-th item, if there is one
 abbrev pub IfAt : {X : Type 0} → List X → ℕ → (X → Type 0) → Type 0
@@ -96,61 +96,61 @@ node-names (node.Rule prio name) = option-names name
 node-names (node.Ident name) = name ∷ []
 node-names node.Converter = []
 
-module _ (v : View) where
+module _ (e : Env) where
   abbrev pub IsSymbol : Sym → Type 0
-  IsSymbol s = s .0 < length (v .symbols .items)
+  IsSymbol s = s .0 < length (e .symbols)
 
   abbrev pub IsType : TypeId → Type 0
-  IsType t = t .0 < length (v .types .items)
+  IsType t = t .0 < length (e .types)
 
   -- the bytes of the symbols
   abbrev pub names : List (List ℕ)
-  names = map (λ s. bytes (v .text .items) (s .name)) (v .symbols .items)
+  names = map (λ s. bytes (e .text) (s .name)) (e .symbols)
 
   pub record TypeGood (i : ℕ) (t : Ty) : Type 0 where
     pub builtin : i < 13 → t ≡ builtin-type i
     pub named : IsSymbol (t .name)
-    pub new : New (map (λ t. t .name) (v .types .items)) i
+    pub new : New (map (λ t. t .name) (e .types)) i
 
   pub record ConstantGood (i : ℕ) (c : Constant) : Type 0 where
     pub named : IsSymbol (c .name)
     pub typed : IsType (c .ty)
-    pub new : New (map (λ c. c .name) (v .constants .items)) i
+    pub new : New (map (λ c. c .name) (e .constants)) i
 
   -- a template is one pattern tree in the source list
   abbrev pub TemplateGood : ℕ → Option Part → Type 0
   TemplateGood arity None = Unit {0}
-  TemplateGood arity (Some p) = (p .end ≤ length (v .source .items)) × IsTree (template-rules arity) (slice (v .source .items) p)
+  TemplateGood arity (Some p) = (p .end ≤ length (e .source)) × IsTree (template-rules arity) (slice (e .source) p)
 
   pub record TermGood (i : ℕ) (t : Term) : Type 0 where
     pub named : IsSymbol (t .name)
     pub few : length (vec-items (t .«arg_tys»)) ≤ 16
     pub args : All IsType (vec-items (t .«arg_tys»))
     pub ret : IsType (t .«ret_ty»)
-    pub new : New (map (λ t. t .name) (v .terms .items)) i
+    pub new : New (map (λ t. t .name) (e .terms)) i
     pub template : TemplateGood (length (vec-items (t .«arg_tys»))) (template-of (t .kind))
 
   abbrev pub SourceGood : Source → Type 0
-  SourceGood s = All (Inside (v .text .items)) (node-names (s .node))
+  SourceGood s = All (Inside (e .text)) (node-names (s .node))
 
   pub record SymbolGood (i : ℕ) (s : Symbol) : Type 0 where
-    pub inside : Inside (v .text .items) (s .name)
-    pub builtin : i < 13 → nth builtin-names i ≡ Some (bytes (v .text .items) (s .name))
+    pub inside : Inside (e .text) (s .name)
+    pub builtin : i < 13 → nth builtin-names i ≡ Some (bytes (e .text) (s .name))
     pub new : New names i
 
   -- What record i of a table has to keep. The built-in types and symbols have to be there.
   -- The text has no rules of its own, and the tables that elaboration writes are emptied.
   abbrev pub Keeps : TableId → ℕ → Type 0
   Keeps table.Text i = Unit {0}
-  Keeps table.Types i = (i < 13 → i < length (v .types .items)) × IfAt (v .types .items) i (TypeGood i)
-  Keeps table.Constants i = IfAt (v .constants .items) i (ConstantGood i)
+  Keeps table.Types i = (i < 13 → i < length (e .types)) × IfAt (e .types) i (TypeGood i)
+  Keeps table.Constants i = IfAt (e .constants) i (ConstantGood i)
   Keeps table.Rules i = Unit {0}
   Keeps table.Definitions i = Unit {0}
   Keeps table.Faults i = Unit {0}
-  Keeps table.Terms i = IfAt (v .terms .items) i (TermGood i)
-  Keeps table.Source i = IfAt (v .source .items) i SourceGood
+  Keeps table.Terms i = IfAt (e .terms) i (TermGood i)
+  Keeps table.Source i = IfAt (e .source) i SourceGood
   Keeps table.Output i = Unit {0}
-  Keeps table.Symbols i = (i < 13 → i < length (v .symbols .items)) × IfAt (v .symbols .items) i (SymbolGood i)
+  Keeps table.Symbols i = (i < 13 → i < length (e .symbols)) × IfAt (e .symbols) i (SymbolGood i)
   Keeps table.Converters i = Unit {0}
   Keeps table.Variables i = Unit {0}
   Keeps table.Scopes i = Unit {0}

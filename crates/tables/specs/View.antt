@@ -1,5 +1,6 @@
 -- All tables of an elaboration as a contract sees them.
 use mathlib.Core.Bool.{Bool}
+use mathlib.Core.List.{List}
 use Prim.Native.Nat.{ℕ, min}
 use Rattle.table.specs.Shelf.{Shelf, shelf, empty, cut}
 use Rattle.records.specs.declared.env.Constant.{Constant}
@@ -49,6 +50,25 @@ view t = record {
   variables = shelf (t .variables);
   scopes = shelf (t .scopes);
   expand = t .«expand_internal_extractors»;
+}
+
+-- The environment that rules are typed in: what is handed over, and stays.
+pub record Env : Type 0 where
+  pub text : List ℕ
+  pub types : List Ty
+  pub constants : List Constant
+  pub terms : List Term
+  pub source : List Source
+  pub symbols : List Symbol
+
+abbrev pub env : View → Env
+env v = record {
+  text = v .text .items;
+  types = v .types .items;
+  constants = v .constants .items;
+  terms = v .terms .items;
+  source = v .source .items;
+  symbols = v .symbols .items;
 }
 
 -- all tables empty, with room up to the limits asked for, and never more than the maximum

@@ -5,7 +5,7 @@ ghost use Rattle.std.specs.Orderings.{Decides};
 ghost use Rattle.std.specs.Options.{Cases};
 ghost use Rattle.std.specs.Results.{Cases as ByOk};
 ghost use Rattle.tables.specs.Lawful.{Keeps, Lawful, Names};
-ghost use Rattle.tables.specs.View.{view};
+ghost use Rattle.tables.specs.View.{env, view};
 use crate::Tables;
 use crate::names::BUILTINS;
 use records::refusal::Refusal;
@@ -13,7 +13,7 @@ use records::refusal::TableId;
 
 impl Tables {
     fn type_keeps(&self, i: usize) -> bool
-        ensures { λ r. ⌜ Decides r (Keeps (view (now (self .entry))) TableId.Types i) ⌝ }
+        ensures { λ r. ⌜ Decides r (Keeps (env (view (now (self .entry)))) TableId.Types i) ⌝ }
     {
         match self.types.get(i) {
             Some(ty) => self.is_good_type(i, *ty),
@@ -22,7 +22,7 @@ impl Tables {
     }
 
     fn constant_keeps(&self, i: usize) -> bool
-        ensures { λ r. ⌜ Decides r (Keeps (view (now (self .entry))) TableId.Constants i) ⌝ }
+        ensures { λ r. ⌜ Decides r (Keeps (env (view (now (self .entry)))) TableId.Constants i) ⌝ }
     {
         match self.constants.get(i) {
             Some(constant) => self.is_good_constant(i, *constant),
@@ -31,7 +31,7 @@ impl Tables {
     }
 
     fn term_keeps(&self, i: usize) -> bool
-        ensures { λ r. ⌜ Decides r (Keeps (view (now (self .entry))) TableId.Terms i) ⌝ }
+        ensures { λ r. ⌜ Decides r (Keeps (env (view (now (self .entry)))) TableId.Terms i) ⌝ }
     {
         match self.terms.get(i) {
             Some(term) => self.is_good_term(i, term),
@@ -40,7 +40,7 @@ impl Tables {
     }
 
     fn source_keeps(&self, i: usize) -> bool
-        ensures { λ r. ⌜ Decides r (Keeps (view (now (self .entry))) TableId.Source i) ⌝ }
+        ensures { λ r. ⌜ Decides r (Keeps (env (view (now (self .entry)))) TableId.Source i) ⌝ }
     {
         match self.source.get(i) {
             Some(source) => self.is_good_source(*source),
@@ -49,8 +49,8 @@ impl Tables {
     }
 
     fn symbol_keeps(&self, i: usize) -> bool
-        requires { ⌜ ((j : ℕ) → j < i → Keeps (view (now self)) TableId.Symbols j) ⌝ }
-        ensures { λ r. ⌜ Decides r (Keeps (view (now (self .entry))) TableId.Symbols i) ⌝ }
+        requires { ⌜ ((j : ℕ) → j < i → Keeps (env (view (now self))) TableId.Symbols j) ⌝ }
+        ensures { λ r. ⌜ Decides r (Keeps (env (view (now (self .entry)))) TableId.Symbols i) ⌝ }
     {
         match self.symbols.get(i) {
             Some(symbol) => self.is_good_symbol(i, *symbol),
@@ -60,8 +60,8 @@ impl Tables {
 
     /// Whether record `i` of a table keeps the rules, where those before it do.
     fn keeps(&self, table: TableId, i: usize) -> bool
-        requires { ⌜ ((j : ℕ) → j < i → Keeps (view (now self)) table j) ⌝ }
-        ensures { λ r. ⌜ Decides r (Keeps (view (now (self .entry))) table i) ⌝ }
+        requires { ⌜ ((j : ℕ) → j < i → Keeps (env (view (now self))) table j) ⌝ }
+        ensures { λ r. ⌜ Decides r (Keeps (env (view (now (self .entry)))) table i) ⌝ }
     {
         match table {
             TableId::Types => self.type_keeps(i),
@@ -75,7 +75,7 @@ impl Tables {
 
     /// Up to which record a table has to be looked at.
     fn looked_at(&self, table: TableId) -> usize
-        ensures { λ r. ⌜ ((j : ℕ) → r ≤ j → Keeps (view (now (self .entry))) table j) ⌝ }
+        ensures { λ r. ⌜ ((j : ℕ) → r ≤ j → Keeps (env (view (now (self .entry)))) table j) ⌝ }
     {
         match table {
             TableId::Types => self.types.len().max(BUILTINS),
@@ -89,7 +89,7 @@ impl Tables {
 
     /// The first record of a table that breaks a rule.
     fn first_bad(&self, table: TableId) -> Option<usize>
-        ensures { λ r. ⌜ Cases r ((j : ℕ) → Keeps (view (now (self .entry))) table j) (λ i. ((j : ℕ) → j < i → Keeps (view (now (self .entry))) table j) × (Keeps (view (now (self .entry))) table i → ⊥)) ⌝ }
+        ensures { λ r. ⌜ Cases r ((j : ℕ) → Keeps (env (view (now (self .entry)))) table j) (λ i. ((j : ℕ) → j < i → Keeps (env (view (now (self .entry)))) table j) × (Keeps (env (view (now (self .entry)))) table i → ⊥)) ⌝ }
     {
         for i in 0..self.looked_at(table) {
             if !self.keeps(table, i) {
@@ -101,7 +101,7 @@ impl Tables {
 
     /// Whether the tables are lawful; if not, which table breaks a rule first, and at which record.
     pub fn check(&self) -> Result<(), Refusal>
-        ensures { λ r. ⌜ ByOk r (λ _. Lawful (view (now (self .entry)))) (λ e. Names (view (now (self .entry))) e) ⌝ }
+        ensures { λ r. ⌜ ByOk r (λ _. Lawful (env (view (now (self .entry))))) (λ e. Names (env (view (now (self .entry)))) e) ⌝ }
     {
         for table in TableId::ALL {
             if let Some(record) = self.first_bad(table) {

@@ -10,7 +10,7 @@ ghost use Rattle.std.specs.shelf.Lists.{All};
 ghost use Rattle.std.specs.shelf.Maps.{nth};
 ghost use Rattle.tables.specs.Lawful.{IsSymbol, IsType, TypeGood, ConstantGood, TemplateGood, TermGood, SourceGood, SymbolGood, IfAt, builtin-type, template-of, pattern-names, expr-names};
 ghost use Rattle.tables.specs.Names.{Inside, New, bytes, builtin-names};
-ghost use Rattle.tables.specs.View.{view};
+ghost use Rattle.tables.specs.View.{env, view};
 use crate::Tables;
 use crate::named::ConstantNamed;
 use crate::named::TermNamed;
@@ -60,20 +60,20 @@ fn is_builtin(ty: Type, number: usize) -> bool
 
 impl Tables {
     fn is_symbol(&self, sym: Sym) -> bool
-        ensures { λ r. ⌜ Decides r (IsSymbol (view (now (self .entry))) sym) ⌝ }
+        ensures { λ r. ⌜ Decides r (IsSymbol (env (view (now (self .entry)))) sym) ⌝ }
     {
         (sym.0 as usize) < self.symbols.len()
     }
 
     fn is_type(&self, ty: TypeId) -> bool
-        ensures { λ r. ⌜ Decides r (IsType (view (now (self .entry))) ty) ⌝ }
+        ensures { λ r. ⌜ Decides r (IsType (env (view (now (self .entry)))) ty) ⌝ }
     {
         (ty.0 as usize) < self.types.len()
     }
 
     pub(crate) fn is_good_type(&self, i: usize, ty: Type) -> bool
-        requires { ⌜ i < length (view (now self) .types .items) ⌝ }
-        ensures { λ r. ⌜ Decides r (TypeGood (view (now (self .entry))) i ty) ⌝ }
+        requires { ⌜ i < length (env (view (now self)) .types) ⌝ }
+        ensures { λ r. ⌜ Decides r (TypeGood (env (view (now (self .entry)))) i ty) ⌝ }
     {
         if !is_builtin(ty, i) || !self.is_symbol(ty.name) {
             return false;
@@ -82,8 +82,8 @@ impl Tables {
     }
 
     pub(crate) fn is_good_constant(&self, i: usize, constant: Constant) -> bool
-        requires { ⌜ i < length (view (now self) .constants .items) ⌝ }
-        ensures { λ r. ⌜ Decides r (ConstantGood (view (now (self .entry))) i constant) ⌝ }
+        requires { ⌜ i < length (env (view (now self)) .constants) ⌝ }
+        ensures { λ r. ⌜ Decides r (ConstantGood (env (view (now (self .entry)))) i constant) ⌝ }
     {
         if !self.is_symbol(constant.name) || !self.is_type(constant.ty) {
             return false;
@@ -93,7 +93,7 @@ impl Tables {
 
     /// Whether the part of the source list is a template of a term with that many arguments.
     fn is_template(&self, arity: usize, part: Part) -> bool
-        ensures { λ r. ⌜ Decides r (TemplateGood (view (now (self .entry))) arity (Some part)) ⌝ }
+        ensures { λ r. ⌜ Decides r (TemplateGood (env (view (now (self .entry)))) arity (Some part)) ⌝ }
     {
         let source = self.source.as_slice();
         let start = part.start as usize;
@@ -105,7 +105,7 @@ impl Tables {
     }
 
     fn are_types(&self, types: &[TypeId]) -> bool
-        ensures { λ r. ⌜ Decides r (All (IsType (view (now (self .entry)))) (now (types .entry))) ⌝ }
+        ensures { λ r. ⌜ Decides r (All (IsType (env (view (now (self .entry))))) (now (types .entry))) ⌝ }
     {
         for ty in types {
             if !self.is_type(*ty) {
@@ -117,7 +117,7 @@ impl Tables {
 
     /// Whether the term's template, if it has one, is lawful.
     fn has_good_template(&self, term: &Term) -> bool
-        ensures { λ r. ⌜ Decides r (TemplateGood (view (now (self .entry))) (length (vec-items (now (term .entry) .«arg_tys»))) (template-of (now (term .entry) .kind))) ⌝ }
+        ensures { λ r. ⌜ Decides r (TemplateGood (env (view (now (self .entry)))) (length (vec-items (now (term .entry) .«arg_tys»))) (template-of (now (term .entry) .kind))) ⌝ }
     {
         match term.kind {
             TermKind::Decl {
@@ -129,8 +129,8 @@ impl Tables {
     }
 
     pub(crate) fn is_good_term(&self, i: usize, term: &Term) -> bool
-        requires { ⌜ i < length (view (now self) .terms .items) ⌝ }
-        ensures { λ r. ⌜ Decides r (TermGood (view (now (self .entry))) i (now (term .entry))) ⌝ }
+        requires { ⌜ i < length (env (view (now self)) .terms) ⌝ }
+        ensures { λ r. ⌜ Decides r (TermGood (env (view (now (self .entry)))) i (now (term .entry))) ⌝ }
     {
         if !self.is_symbol(term.name) || !self.is_type(term.ret_ty) {
             return false;
@@ -145,10 +145,10 @@ impl Tables {
     }
 
     pub(crate) fn is_good_symbol(&self, i: usize, symbol: Symbol) -> bool
-        requires within { ⌜ i < length (view (now self) .symbols .items) ⌝ }
-        requires here { ⌜ nth (view (now self) .symbols .items) i ≡ Some symbol ⌝ }
-        requires before { ⌜ ((j : ℕ) → j < i → IfAt (view (now self) .symbols .items) j (λ s. Inside (view (now self) .text .items) (s .name))) ⌝ }
-        ensures { λ r. ⌜ Decides r (SymbolGood (view (now (self .entry))) i symbol) ⌝ }
+        requires within { ⌜ i < length (env (view (now self)) .symbols) ⌝ }
+        requires here { ⌜ nth (env (view (now self)) .symbols) i ≡ Some symbol ⌝ }
+        requires before { ⌜ ((j : ℕ) → j < i → IfAt (env (view (now self)) .symbols) j (λ s. Inside (env (view (now self)) .text) (s .name))) ⌝ }
+        ensures { λ r. ⌜ Decides r (SymbolGood (env (view (now (self .entry)))) i symbol) ⌝ }
     {
         let text = self.text.as_slice();
         if !is_inside(text, symbol.name) || !has_builtin_name(text, i, symbol) {
@@ -158,7 +158,7 @@ impl Tables {
     }
 
     pub(crate) fn is_good_source(&self, source: Source) -> bool
-        ensures { λ r. ⌜ Decides r (SourceGood (view (now (self .entry))) source) ⌝ }
+        ensures { λ r. ⌜ Decides r (SourceGood (env (view (now (self .entry)))) source) ⌝ }
     {
         let text = self.text.as_slice();
         match source.node {

@@ -7,7 +7,7 @@ use Rattle.std.proofs.shelf.Tests.{cases-lt}
 use Rattle.records.specs.Numbers.{table-number}
 use Rattle.records.specs.declared.refusal.TableId.the-variants.{Text}
 use Rattle.tables.specs.Lawful.{Keeps}
-use Rattle.tables.specs.View.{view}
+use Rattle.tables.specs.View.{env, view}
 use Rattle.tables.proofs.Numbers.{all, at-number, number-at, below}
 use Rattle.tables.proofs.Tables.check.Needs as need
 
@@ -16,7 +16,7 @@ loop-table-holds c t h = absurd (omega arith)
 
 pub returns-in-Some : need.returns-in-Some
 returns-in-Some c =
-    let v = view (c .args .self .now) in
+    let e = env (view (c .args .self .now)) in
     let index = c .loop-table .table-index in
     let number = number-at index (omega arith) in
     let (before, bad) = c .in-Some .ensures tt in
@@ -24,11 +24,11 @@ returns-in-Some c =
 
 pub loop-table-again : need.loop-table-again
 loop-table-again c t h =
-    let v = view (c .args .self .now) in
+    let e = env (view (c .args .self .now)) in
     let index = c .loop-table .table-index in
     ⊎-elim (λ l. c .loop-table .inv t l)
       (λ ge. let here : table-number t ≡ index = omega arith in
-        subst (λ s. (j : ℕ) → Keeps v s j) (ap (λ k. getD all k Text) (sym here) ∙ at-number t) (c .in-rest .ensures tt))
+        subst (λ s. (j : ℕ) → Keeps e s j) (ap (λ k. getD all k Text) (sym here) ∙ at-number t) (c .in-rest .ensures tt))
       (cases-lt (table-number t) index)
 
 pub returns : need.returns

@@ -6,6 +6,9 @@ mod named;
 mod names;
 mod template;
 
+pub use names::BUILTINS;
+pub use names::builtin_name;
+
 use records::env::Constant;
 use records::env::Symbol;
 use records::env::Term;
@@ -50,6 +53,25 @@ pub struct Limits {
     pub converters: usize,
     pub variables: usize,
     pub scopes: usize,
+}
+
+impl Limits {
+    /// Room for as much as any elaboration may hold.
+    pub const MAX: Limits = Limits {
+        text: MAX_TEXT,
+        types: MAX_TYPES,
+        constants: MAX_CONSTANTS,
+        rules: MAX_RULES,
+        definitions: MAX_DEFINITIONS,
+        faults: MAX_FAULTS,
+        terms: MAX_TERMS,
+        source: MAX_SOURCE,
+        output: MAX_OUTPUT,
+        symbols: MAX_SYMBOLS,
+        converters: MAX_CONVERTERS,
+        variables: MAX_VARIABLES,
+        scopes: MAX_SCOPES,
+    };
 }
 
 /// All tables of an elaboration, and whether internal extractors are expanded.

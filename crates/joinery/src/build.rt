@@ -1,0 +1,153 @@
+// Tables in the making: names are written into the text as they come.
+use records::env::Constant;
+use records::env::Symbol;
+use records::env::Term;
+use records::env::TermKind;
+use records::env::Type;
+use records::env::TypeKind;
+use records::ids::Sym;
+use records::ids::TypeId;
+use records::source::Name;
+use records::source::Node;
+use records::source::Pos;
+use records::source::Source;
+use std::alloc::AllocError;
+use std::alloc::Global;
+use std::alloc::Refused;
+use table::Full;
+use tables::BUILTINS;
+use tables::Limits;
+use tables::Tables;
+use tables::builtin_name;
+
+/// Why tables could not be made.
+#[derive(Clone, Copy, Debug)]
+pub enum Stop {
+    NoMemory,
+    Full,
+}
+
+pub impl From<AllocError> for Stop as StopFromAllocError {
+    fn from(_error: AllocError) -> Stop {
+        Stop::NoMemory
+    }
+}
+
+pub impl<T: Drop> From<Refused<T>> for Stop as StopFromRefused {
+    fn from(_refused: Refused<T>) -> Stop {
+        Stop::NoMemory
+    }
+}
+
+pub impl From<Full> for Stop as StopFromFull {
+    fn from(_full: Full) -> Stop {
+        Stop::Full
+    }
+}
+
+/// A number of a record as it is written down; none where it is too large.
+fn number(n: usize) -> Result<u16, Stop> {
+    match u16::try_from(n) {
+        Ok(n) => Ok(n),
+        Err(_) => Err(Stop::Full),
+    }
+}
+
+#[derive(Drop)]
+pub struct Builder {
+    pub heap: Global,
+    pub tables: Tables,
+}
+
+impl Builder {
+    /// Tables with the built-in types.
+    pub fn new(heap: Global, limits: &Limits) -> Result<Builder, Stop> {
+        let tables = Tables::new(heap, limits, true)?;
+        let mut builder = Builder { heap, tables };
+        for i in 0..BUILTINS {
+            let kind = if i == 0 {
+                TypeKind::Bool
+            } else {
+                TypeKind::Int
+            };
+            builder.ty(builtin_name(i), kind)?;
+        }
+        Ok(builder)
+    }
+
+    /// A name, written at the end of the text.
+    pub fn name(&mut self, bytes: &[u8]) -> Result<Name, Stop> {
+        let Ok(start) = u32::try_from(self.tables.text.len()) else {
+            return Err(Stop::Full);
+        };
+        let len = number(bytes.len())?;
+        for byte in bytes {
+            self.tables.text.push(*byte)?;
+        }
+        Ok(Name { start, len })
+    }
+
+    pub fn symbol(&mut self, bytes: &[u8]) -> Result<Sym, Stop> {
+        let name = self.name(bytes)?;
+        self.symbol_at(name)
+    }
+
+    pub fn symbol_at(&mut self, name: Name) -> Result<Sym, Stop> {
+        let sym = Sym(number(self.tables.symbols.len())?);
+        self.tables.symbols.push(Symbol { name })?;
+        Ok(sym)
+    }
+
+    pub fn ty(&mut self, bytes: &[u8], kind: TypeKind) -> Result<TypeId, Stop> {
+        let name = self.symbol(bytes)?;
+        self.type_at(name, kind)
+    }
+
+    pub fn type_at(&mut self, name: Sym, kind: TypeKind) -> Result<TypeId, Stop> {
+        let ty = TypeId(number(self.tables.types.len())?);
+        self.tables.types.push(Type { name, kind })?;
+        Ok(ty)
+    }
+
+    pub fn constant(&mut self, bytes: &[u8], ty: TypeId) -> Result<(), Stop> {
+        let name = self.symbol(bytes)?;
+        self.tables.constants.push(Constant { name, ty })?;
+        Ok(())
+    }
+
+    pub fn term(
+        &mut self,
+        bytes: &[u8],
+        args: &[TypeId],
+        ret_ty: TypeId,
+        kind: TermKind,
+    ) -> Result<Sym, Stop> {
+        let name = self.symbol(bytes)?;
+        self.term_at(name, args, ret_ty, kind)?;
+        Ok(name)
+    }
+
+    pub fn term_at(
+        &mut self,
+        name: Sym,
+        args: &[TypeId],
+        ret_ty: TypeId,
+        kind: TermKind,
+    ) -> Result<(), Stop> {
+        let arg_tys = args.to_vec(self.heap)?;
+        self.tables.terms.push(Term {
+            name,
+            arg_tys,
+            ret_ty,
+            kind,
+        })?;
+        Ok(())
+    }
+
+    /// A source record at an offset of the only file.
+    pub fn source(&mut self, node: Node, size: u16, offset: u32) -> Result<(), Stop> {
+        let pos = Pos { file: 0, offset };
+        self.tables.source.push(Source { node, size, pos })?;
+        Ok(())
+    }
+}

@@ -4,7 +4,7 @@
 #[derive(Clone, Copy)]
 pub struct Name {
     pub start: u32,
-    pub len: u16,
+    pub len: u32,
 }
 
 /// A place in the source files.

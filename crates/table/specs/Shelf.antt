@@ -2,8 +2,8 @@
 use mathlib.Core.Bool.{Bool, cond}
 use mathlib.Core.List.{List, [], _∷_, _++_}
 use mathlib.Core.Path.{_≡_}
-use Prim.Native.Nat.{ℕ}
-use lib.Dec.{ltb}
+use Prim.Native.Nat.{ℕ, _+_}
+use lib.Dec.{leb, ltb}
 use lib.ListN.{length, take}
 use Rattle.std.specs.Of.Vec.{vec-items}
 use Rattle.std.specs.declared.result.Result.{Result}
@@ -45,3 +45,8 @@ told s (Err e) = refused s e
 -- one more item where there is a place for it, else nothing changes
 abbrev pub put : {T : Type 0} → T → Shelf T → Told (Shelf T) (Unit {0}) Full
 put x s = cond (roomy s) (done (more x s) tt) (refused s (record {}))
+
+-- all of the items where there is a place for each, else nothing changes
+abbrev pub put-all : {T : Type 0} → List T → Shelf T → Told (Shelf T) (Unit {0}) Full
+put-all xs s =
+    cond (leb (length (s .items) + length xs) (s .limit)) (done (record { items = s .items ++ xs; limit = s .limit }) tt) (refused s (record {}))

@@ -1,11 +1,11 @@
 ghost use mathlib.Core.List.{[]};
 ghost use mathlib.Core.Path.{_≡_};
-ghost use Prim.Native.Nat.{min};
+ghost use Prim.Native.Nat.{min, _≤_};
 ghost use lib.ListN.{length};
 ghost use Rattle.std.specs.Options.{mapped};
 ghost use Rattle.std.specs.Vec.{made};
 ghost use Rattle.std.specs.shelf.Maps.{nth};
-ghost use Rattle.table.specs.Shelf.{Shelf, shelf, empty, put, cut, Told, told};
+ghost use Rattle.table.specs.Shelf.{Shelf, shelf, empty, put, put-all, cut, Told, told};
 use super::Full;
 use super::Table;
 use std::alloc::AllocError;
@@ -28,7 +28,8 @@ impl<T, const MAX: usize> Table<T, MAX> {
     }
 
     pub fn len(&self) -> usize
-        ensures { λ r. ⌜ r ≡ length (shelf (now (self .entry)) .items) ⌝ }
+        ensures value { λ r. ⌜ r ≡ length (shelf (now (self .entry)) .items) ⌝ }
+        ensures bound { λ r. ⌜ r ≤ MAX ⌝ }
     {
         self.items.len()
     }
@@ -61,6 +62,21 @@ impl<T, const MAX: usize> Table<T, MAX> {
         }
         self.items.push_reserved(item);
         Ok(())
+    }
+
+    /// Many more items, or a refusal where there is not a place for each, which changes nothing.
+    pub fn extend_from_slice(&mut self, items: &[T]) -> Result<(), Full>
+    where
+        T: Copy,
+        ensures { λ r. ⌜ told (shelf (now (self .exit))) r ≡ put-all (now (items .entry)) (shelf (now (self .entry))) ⌝ }
+    {
+        if items.len() > self.limit - self.len() {
+            return Err(Full);
+        }
+        match self.items.extend_from_slice(items) {
+            Ok(()) => Ok(()),
+            Err(_) => Err(Full),
+        }
     }
 
     /// Takes back what stands behind the first `len` items.

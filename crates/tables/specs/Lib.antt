@@ -2,3 +2,4 @@ pub mod View
 pub mod Names
 pub mod Template
 pub mod Lawful
+pub mod Steps

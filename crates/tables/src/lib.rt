@@ -1,4 +1,5 @@
 // A new elaboration: thirteen tables of any content, and the test that they are lawful.
+mod adding;
 mod checks;
 mod keeps;
 mod making;

@@ -1,6 +1,10 @@
 // Adding to tables; a full table is a refusal that names it.
+ghost use mathlib.Core.List.{[]};
 ghost use mathlib.Core.Path.{_≡_};
+ghost use Prim.Native.Nat.{_<_};
+ghost use lib.ListN.{getD};
 ghost use Rattle.table.specs.Shelf.{told};
+ghost use Rattle.tables.specs.Lawful.{builtin-type};
 ghost use Rattle.tables.specs.Names.{builtin-names};
 ghost use Rattle.tables.specs.Steps.{add-name, add-symbol, add-type, add-builtin, add-builtins};
 ghost use Rattle.tables.specs.View.{view};
@@ -52,5 +56,41 @@ impl Tables {
                 table: TableId::Types,
             }),
         }
+    }
+
+    /// Built-in type `i`: its name, the symbol of that name, the type.
+    fn add_builtin(&mut self, i: usize) -> Result<(), Refusal>
+        requires { ⌜ i < 13 ⌝ }
+        ensures { λ r. ⌜ told (view (now (self .exit))) r ≡ add-builtin i (getD builtin-names i []) (view (now (self .entry))) ⌝ }
+    {
+        let name = self.add_name(builtin_name(i))?;
+        self.add_symbol(Symbol { name })?;
+        self.add_type(builtin_type(i))
+    }
+
+    /// The built-in types, with which every environment begins.
+    pub fn add_builtins(&mut self) -> Result<(), Refusal>
+        ensures { λ r. ⌜ told (view (now (self .exit))) r ≡ add-builtins 0 builtin-names (view (now (self .entry))) ⌝ }
+    {
+        for i in 0..BUILTINS {
+            self.add_builtin(i)?;
+        }
+        Ok(())
+    }
+}
+
+/// Built-in type `i`: symbol `i` names it, the first is bool, the others are integers.
+fn builtin_type(i: usize) -> Type
+    requires { ⌜ i < 13 ⌝ }
+    ensures { λ r. ⌜ r ≡ builtin-type i ⌝ }
+{
+    let kind = if i == 0 {
+        TypeKind::Bool
+    } else {
+        TypeKind::Int
+    };
+    Type {
+        name: Sym(i as u16),
+        kind,
     }
 }

@@ -1,4 +1,4 @@
-// Tables in the making: names are written into the text as they come.
+// Tables in the making: each record gets the next number, and its name is written into the text.
 use records::env::Constant;
 use records::env::Symbol;
 use records::env::Term;
@@ -7,6 +7,7 @@ use records::env::Type;
 use records::env::TypeKind;
 use records::ids::Sym;
 use records::ids::TypeId;
+use records::refusal::Refusal;
 use records::source::Name;
 use records::source::Node;
 use records::source::Pos;
@@ -15,13 +16,11 @@ use std::alloc::AllocError;
 use std::alloc::Global;
 use std::alloc::Refused;
 use table::Full;
-use tables::BUILTINS;
 use tables::Limits;
 use tables::Tables;
-use tables::builtin_name;
 
 /// Why tables could not be made.
-#[derive(Clone, Copy, Debug)]
+#[derive(Clone, Copy)]
 pub enum Stop {
     NoMemory,
     Full,
@@ -45,6 +44,12 @@ pub impl From<Full> for Stop as StopFromFull {
     }
 }
 
+pub impl From<Refusal> for Stop as StopFromRefusal {
+    fn from(_refusal: Refusal) -> Stop {
+        Stop::Full
+    }
+}
+
 /// A number of a record as it is written down; none where it is too large.
 fn number(n: usize) -> Result<u16, Stop> {
     match u16::try_from(n) {
@@ -62,29 +67,13 @@ pub struct Builder {
 impl Builder {
     /// Tables with the built-in types.
     pub fn new(heap: Global, limits: &Limits) -> Result<Builder, Stop> {
-        let tables = Tables::new(heap, limits, true)?;
-        let mut builder = Builder { heap, tables };
-        for i in 0..BUILTINS {
-            let kind = if i == 0 {
-                TypeKind::Bool
-            } else {
-                TypeKind::Int
-            };
-            builder.ty(builtin_name(i), kind)?;
-        }
-        Ok(builder)
+        let mut tables = Tables::new(heap, limits, true)?;
+        tables.add_builtins()?;
+        Ok(Builder { heap, tables })
     }
 
-    /// A name, written at the end of the text.
     pub fn name(&mut self, bytes: &[u8]) -> Result<Name, Stop> {
-        let Ok(start) = u32::try_from(self.tables.text.len()) else {
-            return Err(Stop::Full);
-        };
-        let len = number(bytes.len())?;
-        for byte in bytes {
-            self.tables.text.push(*byte)?;
-        }
-        Ok(Name { start, len })
+        Ok(self.tables.add_name(bytes)?)
     }
 
     pub fn symbol(&mut self, bytes: &[u8]) -> Result<Sym, Stop> {
@@ -94,7 +83,7 @@ impl Builder {
 
     pub fn symbol_at(&mut self, name: Name) -> Result<Sym, Stop> {
         let sym = Sym(number(self.tables.symbols.len())?);
-        self.tables.symbols.push(Symbol { name })?;
+        self.tables.add_symbol(Symbol { name })?;
         Ok(sym)
     }
 
@@ -105,7 +94,7 @@ impl Builder {
 
     pub fn type_at(&mut self, name: Sym, kind: TypeKind) -> Result<TypeId, Stop> {
         let ty = TypeId(number(self.tables.types.len())?);
-        self.tables.types.push(Type { name, kind })?;
+        self.tables.add_type(Type { name, kind })?;
         Ok(ty)
     }
 
@@ -135,12 +124,14 @@ impl Builder {
         kind: TermKind,
     ) -> Result<(), Stop> {
         let arg_tys = args.to_vec(self.heap)?;
-        self.tables.terms.push(Term {
-            name,
-            arg_tys,
-            ret_ty,
-            kind,
-        })?;
+        self.tables
+            .terms
+            .push(Term {
+                name,
+                arg_tys,
+                ret_ty,
+                kind,
+            })?;
         Ok(())
     }
 

@@ -14,6 +14,7 @@ use std::alloc::Global;
 use tables::Limits;
 
 pub const LEN: TypeId = TypeId(13);
+
 pub const BOARD: TypeId = TypeId(14);
 
 /// Small tables do for a few terms.

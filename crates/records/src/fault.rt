@@ -13,40 +13,109 @@ pub struct Fault {
 
 #[derive(Clone, Copy)]
 pub enum Cause {
-    UnknownInnerType { name: Name },
-    UnknownOuterType { name: Name },
-    UnknownConverterTerm { name: Name },
-    DuplicateConverter { inner: Name, outer: Name },
-    ArgumentCount { term: Name, got: u32, expected: u32 },
+    UnknownInnerType {
+        name: Name,
+    },
+    UnknownOuterType {
+        name: Name,
+    },
+    UnknownConverterTerm {
+        name: Name,
+    },
+    DuplicateConverter {
+        inner: Name,
+        outer: Name,
+    },
+    ArgumentCount {
+        term: Name,
+        got: u32,
+        expected: u32,
+    },
     RootNotTerm,
     UnknownRootTerm,
     RootNotDeclared,
     PriorityOfMulti,
-    DuplicateRuleName { name: Name },
-    NoConstructor { term: Name },
-    PatternIntType { ty: TypeId, val: i64 },
-    PatternBoolType { val: bool, ty: TypeId },
+    DuplicateRuleName {
+        name: Name,
+    },
+    NoConstructor {
+        term: Name,
+    },
+    PatternIntType {
+        ty: TypeId,
+        val: i64,
+    },
+    PatternBoolType {
+        val: bool,
+        ty: TypeId,
+    },
     PatternUnknownConst,
     PatternConstType,
-    ReboundVariable { var: Name },
-    PatternVarType { expected: TypeId, var: Name, found: TypeId },
-    PatternUnknownTerm { term: Name },
-    PatternTermType { expected: TypeId, found: TypeId },
-    NoExtractor { term: Name },
-    ExprTermIsVariable { term: Name },
-    ExprUnknownTerm { term: Name },
-    ExprTermType { expected: TypeId, found: TypeId },
-    NotPure { term: Name },
-    MultiInSingle { term: Name },
-    PartialOnRight { term: Name, root_multi: bool },
-    ExprUnknownVar { var: Name },
-    ExprVarType { var: Name, found: TypeId, expected: TypeId },
-    ExprBoolType { val: bool, ty: TypeId },
+    ReboundVariable {
+        var: Name,
+    },
+    PatternVarType {
+        expected: TypeId,
+        var: Name,
+        found: TypeId,
+    },
+    PatternUnknownTerm {
+        term: Name,
+    },
+    PatternTermType {
+        expected: TypeId,
+        found: TypeId,
+    },
+    NoExtractor {
+        term: Name,
+    },
+    ExprTermIsVariable {
+        term: Name,
+    },
+    ExprUnknownTerm {
+        term: Name,
+    },
+    ExprTermType {
+        expected: TypeId,
+        found: TypeId,
+    },
+    NotPure {
+        term: Name,
+    },
+    MultiInSingle {
+        term: Name,
+    },
+    PartialOnRight {
+        term: Name,
+        root_multi: bool,
+    },
+    ExprUnknownVar {
+        var: Name,
+    },
+    ExprVarType {
+        var: Name,
+        found: TypeId,
+        expected: TypeId,
+    },
+    ExprBoolType {
+        val: bool,
+        ty: TypeId,
+    },
     ExprIntUntyped,
-    ExprIntType { ty: TypeId, val: i64 },
+    ExprIntType {
+        ty: TypeId,
+        val: i64,
+    },
     ExprUnknownConst,
-    ExprConstType { val: Name, expected: TypeId, found: TypeId },
-    LetUnknownType { ty: Name, var: Name },
+    ExprConstType {
+        val: Name,
+        expected: TypeId,
+        found: TypeId,
+    },
+    LetUnknownType {
+        ty: Name,
+        var: Name,
+    },
 }
 
 impl Cause {

@@ -55,13 +55,21 @@ pub enum Node {
     Pattern(Pattern),
     Expr(Expr),
     /// A definition of a let, over its value.
-    LetDef { var: Name, ty: Name },
+    LetDef {
+        var: Name,
+        ty: Name,
+    },
     /// Over a pattern, then an expression.
     IfLet,
     /// Over a pattern, if-lets, then an expression.
-    Rule { prio: Option<i64>, name: Option<Name> },
+    Rule {
+        prio: Option<i64>,
+        name: Option<Name>,
+    },
     /// A name with its place.
-    Ident { name: Name },
+    Ident {
+        name: Name,
+    },
     /// Over three placed names: term, inner type, outer type.
     Converter,
 }

@@ -63,6 +63,7 @@ module _ {X : Type 0} (xs : List X) (i : ℕ) (P : X → Type 0) where
       ((λ t. ((λ _. taken xs i x e), h .0 t)), (λ p. h .1 (p .1)))
 
   pub nowhere-needed : (n : ℕ) → None ≡ nth xs i → Decides (leb n i) ((i < n → i < length xs) × IfAt xs i P)
-  nowhere-needed n e =
-      ((λ t. ((λ l. absurd (omega (arith, leb-true n i t))), nowhere e)),
-       (λ p. ⊎-elim (λ l. absurd (omega (arith, p .0 l, free xs i e))) (λ le. le-leb n i le) (cases-lt i n)))
+  nowhere-needed n e = (
+    (λ t. ((λ l. absurd (omega (arith, leb-true n i t))), nowhere e)),
+    (λ p. ⊎-elim (λ l. absurd (omega (arith, p .0 l, free xs i e))) (λ le. le-leb n i le) (cases-lt i n)),
+  )

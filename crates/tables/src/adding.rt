@@ -4,17 +4,15 @@ ghost use mathlib.Core.Path.{_≡_};
 ghost use Prim.Native.Nat.{_<_};
 ghost use lib.ListN.{getD};
 ghost use Rattle.table.specs.Shelf.{told};
-ghost use Rattle.tables.specs.Lawful.{builtin-type};
 ghost use Rattle.tables.specs.Names.{builtin-names};
 ghost use Rattle.tables.specs.Steps.{add-name, add-symbol, add-type, add-builtin, add-builtins};
 ghost use Rattle.tables.specs.View.{view};
 use crate::Tables;
 use crate::names::BUILTINS;
 use crate::names::builtin_name;
+use crate::names::builtin_type;
 use records::env::Symbol;
 use records::env::Type;
-use records::env::TypeKind;
-use records::ids::Sym;
 use records::refusal::Refusal;
 use records::refusal::TableId;
 use records::source::Name;
@@ -76,21 +74,5 @@ impl Tables {
             self.add_builtin(i)?;
         }
         Ok(())
-    }
-}
-
-/// Built-in type `i`: symbol `i` names it, the first is bool, the others are integers.
-fn builtin_type(i: usize) -> Type
-    requires { ⌜ i < 13 ⌝ }
-    ensures { λ r. ⌜ r ≡ builtin-type i ⌝ }
-{
-    let kind = if i == 0 {
-        TypeKind::Bool
-    } else {
-        TypeKind::Int
-    };
-    Type {
-        name: Sym(i as u16),
-        kind,
     }
 }

@@ -18,6 +18,7 @@ use crate::named::TypeNamed;
 use crate::named::is_new;
 use crate::names::BUILTINS;
 use crate::names::builtin_name;
+use crate::names::builtin_type;
 use crate::names::bytes_of;
 use crate::names::is_inside;
 use crate::names::same_name;
@@ -29,9 +30,9 @@ use records::env::Symbol;
 use records::env::Term;
 use records::env::TermKind;
 use records::env::Type;
-use records::env::TypeKind;
 use records::env::TypeKindPartialEq;
 use records::ids::Sym;
+use records::ids::SymPartialEq;
 use records::ids::TypeId;
 use records::source::Expr;
 use records::source::Node;
@@ -50,12 +51,8 @@ fn is_builtin(ty: Type, number: usize) -> bool
     if number >= BUILTINS {
         return true;
     }
-    let kind = if number == 0 {
-        TypeKind::Bool
-    } else {
-        TypeKind::Int
-    };
-    ty.name.0 as usize == number && ty.kind == kind
+    let builtin = builtin_type(number);
+    ty.name == builtin.name && ty.kind == builtin.kind
 }
 
 impl Tables {
@@ -165,7 +162,10 @@ impl Tables {
             Node::Pattern(pattern) => are_pattern_names(text, pattern),
             Node::Expr(expr) => are_expr_names(text, expr),
             Node::LetDef { var, ty } => is_inside(text, var) && is_inside(text, ty),
-            Node::Rule { name: Some(name), .. } => is_inside(text, name),
+            Node::Rule {
+                name: Some(name),
+                ..
+            } => is_inside(text, name),
             Node::Ident { name } => is_inside(text, name),
             Node::Rule { name: None, .. } | Node::IfLet | Node::Converter => true,
         }

@@ -9,7 +9,6 @@ mod template;
 
 pub use names::BUILTINS;
 pub use names::builtin_name;
-
 use records::env::Constant;
 use records::env::Symbol;
 use records::env::Term;
@@ -25,17 +24,29 @@ use records::source::Source;
 use table::Table;
 
 pub const MAX_TEXT: usize = 1_048_576;
+
 pub const MAX_TYPES: usize = 4_096;
+
 pub const MAX_CONSTANTS: usize = 4_096;
+
 pub const MAX_RULES: usize = 4_096;
+
 pub const MAX_DEFINITIONS: usize = 4_096;
+
 pub const MAX_FAULTS: usize = 4_096;
+
 pub const MAX_TERMS: usize = 8_192;
+
 pub const MAX_SOURCE: usize = 65_535;
+
 pub const MAX_OUTPUT: usize = 65_535;
+
 pub const MAX_SYMBOLS: usize = 16_384;
+
 pub const MAX_CONVERTERS: usize = 1_024;
+
 pub const MAX_VARIABLES: usize = 65_535;
+
 pub const MAX_SCOPES: usize = 1_024;
 
 /// How many records each table is to have room for. A limit over the table's maximum counts as the maximum.

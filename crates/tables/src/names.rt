@@ -4,7 +4,11 @@ ghost use Prim.Native.Nat.{_<_};
 ghost use Rattle.std.specs.Orderings.{Decides};
 ghost use Rattle.std.specs.declared.option.Option.the-variants.{Some};
 ghost use Rattle.std.specs.shelf.Maps.{nth};
+ghost use Rattle.tables.specs.Lawful.{builtin-type};
 ghost use Rattle.tables.specs.Names.{Inside, bytes, «builtin-names» as builtins};
+use records::env::Type;
+use records::env::TypeKind;
+use records::ids::Sym;
 use records::source::Name;
 
 /// How many types are built in.
@@ -29,6 +33,22 @@ pub fn builtin_name(i: usize) -> &'static [u8]
         11 => b"i128",
         12 => b"isize",
         _ => b"",
+    }
+}
+
+/// Built-in type `i`: symbol `i` names it, the first is bool, the others are integers.
+pub(crate) fn builtin_type(i: usize) -> Type
+    requires { ⌜ i < 13 ⌝ }
+    ensures { λ r. ⌜ r ≡ builtin-type i ⌝ }
+{
+    let kind = if i == 0 {
+        TypeKind::Bool
+    } else {
+        TypeKind::Int
+    };
+    Type {
+        name: Sym(i as u16),
+        kind,
     }
 }
 

@@ -12,7 +12,6 @@ use Rattle.std.proofs.shelf.Tests.{cases-lt}
 use Rattle.tree.specs.Layout.{Forest, none, next, flat, Rules, empty, Below, Lawful, IsForest, IsTree}
 
 infixl 20 _⧺_
-
 -- the trees of the first, then those of the second
 abbrev pub _⧺_ : {N : Type 0} → Forest N → Forest N → Forest N
 f ⧺ none = f
@@ -20,9 +19,10 @@ f ⧺ (next b c d) = next (f ⧺ b) c d
 
 -- two ways to split one list at one place are one
 pub split-same : {A : Type 0} (a b c d : List A) → length a ≡ length c → a ++ b ≡ c ++ d → (a ≡ c) × (b ≡ d)
-split-same a b c d long e =
-    (sym (take-at a b (length a) refl) ∙ ap (take (length a)) e ∙ take-at c d (length a) (sym long),
-     sym (drop-at a b (length a) refl) ∙ ap (drop (length a)) e ∙ drop-at c d (length a) (sym long))
+split-same a b c d long e = (
+  sym (take-at a b (length a) refl) ∙ ap (take (length a)) e ∙ take-at c d (length a) (sym long),
+  sym (drop-at a b (length a) refl) ∙ ap (drop (length a)) e ∙ drop-at c d (length a) (sym long),
+)
 
 module _ {N : Type 0} where
   pub flat-join : (f b : Forest N) → flat (f ⧺ b) ≡ flat f ++ flat b
@@ -65,7 +65,7 @@ module _ {N : Type 0} (R : Rules N) where
       let p = same-from-push (flat f ++ flat k) (flat g ++ flat h) r s (sym (flat-next f r k) ∙ e ∙ flat-next g s h) in
       let same : R .size r ≡ R .size s = ap (R .size) (p .1) in
       let long : length (flat f) ≡ length (flat g) =
-          omega (arith, length-next f r k, length-next g s h, ap length e) in
+      omega (arith, length-next f r k, length-next g s h, ap length e) in
       let q = split-same (flat f) (flat k) (flat g) (flat h) long (p .0) in
       let front = unique f g lf lg (q .0) in
       let below = unique k h lk lh (q .1) in
@@ -78,20 +78,20 @@ module _ {N : Type 0} (R : Rules N) where
   front (next f r g) (lf, lg, size, below) n h =
       let long = length-next f r g in
       ⊎-elim
-        (λ lt. let p = front f lf n (omega arith) in
-          (p .0, take-append-le n (flat f) _ (omega arith) ∙ p .1, p .2))
-        (λ le. ⊎-elim
-          (λ lt.
-            let m = n - length (flat f) in
-            let p = front g lg m (omega (arith, long)) in
-            let here : length (flat f) + m ≡ n = omega arith in
-            let cut : take n (flat (next f r g)) ≡ flat f ++ take m (flat g ++ r ∷ []) =
-                subst (λ k. take k (flat (next f r g)) ≡ flat f ++ take m (flat g ++ r ∷ [])) here (take-append-add (flat f) _ m) in
-            let short = take-append-le m (flat g) (r ∷ []) (omega (arith, long)) in
-            (f ⧺ p .0, cut ∙ ap (λ xs. flat f ++ xs) (short ∙ p .1) ∙ sym (flat-join f (p .0)), lawful-join f (p .0) lf (p .2)))
-          (λ all. (next f r g, take-all n _ (omega arith), (lf, lg, size, below)))
-          (cases-lt n (length (flat (next f r g)))))
-        (cases-lt n (length (flat f)))
+      (λ lt. let p = front f lf n (omega arith) in
+      (p .0, take-append-le n (flat f) _ (omega arith) ∙ p .1, p .2))
+      (λ le. ⊎-elim
+      (λ lt.
+      let m = n - length (flat f) in
+      let p = front g lg m (omega (arith, long)) in
+      let here : length (flat f) + m ≡ n = omega arith in
+      let cut : take n (flat (next f r g)) ≡ flat f ++ take m (flat g ++ r ∷ []) =
+      subst (λ k. take k (flat (next f r g)) ≡ flat f ++ take m (flat g ++ r ∷ [])) here (take-append-add (flat f) _ m) in
+      let short = take-append-le m (flat g) (r ∷ []) (omega (arith, long)) in
+      (f ⧺ p .0, cut ∙ ap (λ xs. flat f ++ xs) (short ∙ p .1) ∙ sym (flat-join f (p .0)), lawful-join f (p .0) lf (p .2)))
+      (λ all. (next f r g, take-all n _ (omega arith), (lf, lg, size, below)))
+      (cases-lt n (length (flat (next f r g)))))
+      (cases-lt n (length (flat f)))
 
   -- a tree by its root and its size
   pub rooted : (xs : List N) (f : Forest N) → xs ≡ flat f → Lawful R f → 0 < length xs → (d : N) → R .size (getD xs (length xs - 1) d) ≡ length xs → IsTree R xs

@@ -41,16 +41,20 @@ module _ {N : Type 0} (R : Rules N) (r : N) where
       (none, none, refl, sym (eqb-true _ _ (p .0)), p .1)
   walk-sound (next f c g) left after (lf, lg, size, below) t =
       ⊎-elim
-        (λ z. (next f c g, none, refl, sym (eqb-true _ _ z), rw z at t))
-        (λ nz.
-          let p = and-parts _ _ (rw nz at t) in
-          let q = and-parts _ _ (p .1) in
-          let s = walk-sound f (left - R .size c) (after + 1) lf (q .1) in
-          let fits = leb-true _ _ (p .0) in
-          let long : length (flat (s .1)) + R .size c ≡ left = omega (arith, s .3) in
-          (s .0, next (s .1) c g, ap (λ k. next k c g) (s .2), omega (arith, long, size, length-next (s .1) c g),
-            (ap (R .takes r c after) (first-is (s .1) (R .size c) left long) ∙ q .0, s .4)))
-        (cases-bool (eqb left 0))
+      (λ z. (next f c g, none, refl, sym (eqb-true _ _ z), rw z at t))
+      (λ nz.
+      let p = and-parts _ _ (rw nz at t) in
+      let q = and-parts _ _ (p .1) in
+      let s = walk-sound f (left - R .size c) (after + 1) lf (q .1) in
+      let fits = leb-true _ _ (p .0) in
+      let long : length (flat (s .1)) + R .size c ≡ left = omega (arith, s .3) in (
+        s .0,
+        next (s .1) c g,
+        ap (λ k. next k c g) (s .2),
+        omega (arith, long, size, length-next (s .1) c g),
+        (ap (R .takes r c after) (first-is (s .1) (R .size c) left long) ∙ q .0, s .4),
+      ))
+      (cases-bool (eqb left 0))
 
   pub walk-complete : (a b : Forest N) (after : ℕ) → Lawful R b → Below R r after b → walk R r (length (flat b)) after (a ⧺ b) ≡ true
   walk-complete none none after l t = t
@@ -90,17 +94,18 @@ module _ {N : Type 0} (R : Rules N) (r : N) where
     -- r goes on laying out trees just where the walk back says so
     pub walk-decides : (f : Forest N) → take i xs ≡ flat f → Lawful R f → (left : ℕ) → left + 1 ≡ R .size r
         → Decides (walk R r left 0 f) (IsForest R (take (i + 1) xs))
-    walk-decides f e l left full =
-        ((λ t.
+    walk-decides f e l left full = (
+      (λ t.
           let (a, b, is, long, below) = walk-sound f left 0 l t in
           let s = lawful-split R a b (subst (Lawful R) is l) in
           let lay : take i xs ≡ flat a ++ flat b = e ∙ ap flat is ∙ flat-join a b in
           (next a r b, here ∙ ap (λ ys. ys ++ r ∷ []) lay ∙ append-assoc (flat a) (flat b) (r ∷ []), (s .0, s .1, omega (arith, full, long), below))),
-         (λ g.
+      (λ g.
           let (a, b, lay, lab, size, lb, below) = taken-apart g in
           let is : (a ⧺ b) ≡ f = unique R (a ⧺ b) f lab l (lay ∙ e) in
           let long : length (flat b) ≡ left = omega (arith, full, size) in
-          subst (λ k. walk R r left 0 k ≡ true) is (subst (λ n. walk R r n 0 (a ⧺ b) ≡ true) long (walk-complete a b 0 lb below))))
+          subst (λ k. walk R r left 0 k ≡ true) is (subst (λ n. walk R r n 0 (a ⧺ b) ≡ true) long (walk-complete a b 0 lb below))),
+    )
 
 module _ {N : Type 0} (R : Rules N) where
   -- one step of the walk: the tree that ends at `end`
@@ -112,15 +117,20 @@ module _ {N : Type 0} (R : Rules N) where
       let tall = length-take-le end xs within in
       let at : length (take end xs) - 1 ≡ end - 1 = omega (arith, tall) in
       let child : s ≡ c =
-          sym (last-root (take end xs) a s d e c) ∙ ap (λ n. getD (take end xs) n c) at ∙ getD-take end xs (end - 1) c (omega arith) ∙ is in
+      sym (last-root (take end xs) a s d e c) ∙ ap (λ n. getD (take end xs) n c) at ∙ getD-take end xs (end - 1) c (omega arith) ∙ is in
       let size-c : R .size c ≡ length (flat d) + 1 = subst (λ x. R .size x ≡ length (flat d) + 1) child size in
       let long = length-next a s d in
       let all : length (flat (next a s d)) ≡ end = sym (ap length e) ∙ tall in
       let rest : length (flat a) ≡ end - R .size c = omega (arith, long, all, size-c) in
-      let less : end - R .size c ≤ end = omega arith in
-      (a, d, ap (λ x. next a x d) child, la,
+      let less : end - R .size c ≤ end = omega arith in (
+        a,
+        d,
+        ap (λ x. next a x d) child,
+        la,
         sym (take-take (end - R .size c) end xs less) ∙ ap (take (end - R .size c)) e ∙ take-at (flat a) _ (end - R .size c) rest,
-        omega (arith, size-c), omega (arith, size-c, long, all))
+        omega (arith, size-c),
+        omega (arith, size-c, long, all),
+      )
 
 -- Where a walk back from r has come: trees lie before `end`, and whether the last of them fill the `left` records
 -- that r's size still asks for, below r with `after` more, is whether P holds.
@@ -155,5 +165,5 @@ module _ {N : Type 0} (R : Rules N) (r : N) (xs : List N) (end left after : ℕ)
         let rem : left - w ≡ before = omega arith in
         let under = le-leb w left (omega arith) in
         let same : walk R r before (after + 1) a ≡ walk R r left after f =
-            sym (ap (walk R r left after) apart ∙ here-is a d ∙ rw (under, fit, rem)) in
+        sym (ap (walk R r left after) apart ∙ here-is a d ∙ rw (under, fit, rem)) in
         (omega (arith, wide, size), (a, ap (λ n. take (end - n) xs) wide ∙ lay, la, decides-at _ _ same decides))

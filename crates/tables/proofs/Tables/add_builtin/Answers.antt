@@ -25,7 +25,7 @@ pub returns-in-Break-add-symbol : need.returns-in-Break-add-symbol
 returns-in-Break-add-symbol c =
     rw (← named (c .args .i) _ (c .pre) (c .builtin-name .ensures))
     (fails (c .from-residual-in-Break-add-symbol .result) (c .from-residual-in-Break-add-symbol .ensures .1)
-      (then _ _ _ (c .in-Continue-name .ensures tt) (stop _ _ _ (c .in-Break-add-symbol .ensures tt))))
+    (then _ _ _ (c .in-Continue-name .ensures tt) (stop _ _ _ (c .in-Break-add-symbol .ensures tt))))
 
 pub returns : need.returns
 returns c =

@@ -27,9 +27,9 @@ loop-table-again c t h =
     let e = env (view (c .args .self .now)) in
     let index = c .loop-table .table-index in
     ⊎-elim (λ l. c .loop-table .inv t l)
-      (λ ge. let here : table-number t ≡ index = omega arith in
-        subst (λ s. (j : ℕ) → Keeps e s j) (ap (λ k. getD all k Text) (sym here) ∙ at-number t) (c .in-rest .ensures tt))
-      (cases-lt (table-number t) index)
+    (λ ge. let here : table-number t ≡ index = omega arith in
+    subst (λ s. (j : ℕ) → Keeps e s j) (ap (λ k. getD all k Text) (sym here) ∙ at-number t) (c .in-rest .ensures tt))
+    (cases-lt (table-number t) index)
 
 pub returns : need.returns
 returns c t = c .loop-table .inv t (omega (arith, below t))

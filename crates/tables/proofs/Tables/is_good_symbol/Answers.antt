@@ -16,7 +16,7 @@ is-new-symbol-requires c κs =
     rw (c .as-slice .ensures, c .as-slice-text .ensures) (record {
       within = c .pre .within;
       inside = below-more (λ j. IfAt (e .symbols) j (λ s. Inside (e .text) (s .name))) (c .args .i) (c .pre .before)
-        (λ s at. subst (λ t. Inside (e .text) (t .name)) (some-same (sym (c .pre .here) ∙ at)) here);
+          (λ s at. subst (λ t. Inside (e .text) (t .name)) (some-same (sym (c .pre .here) ∙ at)) here);
     })
 
 pub returns : need.returns
@@ -25,6 +25,6 @@ returns c =
     let builtin = rw (c .as-slice-text .ensures) at (c .if-not-has-builtin-name .ensures tt .0 refl) in
     let e = env (view (c .args .self .now)) in
     let new : Decides (c .is-new-symbol .result) (New (names e) (c .args .i)) =
-        subst (λ text. Decides (c .is-new-symbol .result) (New (map (λ s. bytes text (s .name)) (e .symbols)) (c .args .i)))
-        (c .as-slice-text .ensures) (rw (c .as-slice .ensures) at (c .is-new-symbol .ensures)) in
+    subst (λ text. Decides (c .is-new-symbol .result) (New (map (λ s. bytes text (s .name)) (e .symbols)) (c .args .i)))
+    (c .as-slice-text .ensures) (rw (c .as-slice .ensures) at (c .is-new-symbol .ensures)) in
     ((λ t. record { inside = inside; builtin = builtin; new = new .0 t }), (λ good. new .1 (good .new)))

@@ -15,8 +15,8 @@ returns-then-start-end c =
     let xs = c .args .self .now .source .items .items in
     let p = c .args .part in
     fails (λ t.
-      let some = tree-size (template-rules (c .args .arity)) (slice xs p) (t .1) .0 in
-      ⊎-elim
-        (λ none. omega (arith, some, none, length-take (p .end - p .start) (drop (p .start) xs)))
-        (λ past. omega (arith, t .0, past, ap length (c .as-slice-source .ensures)))
-        (c .then-start-end .either))
+    let some = tree-size (template-rules (c .args .arity)) (slice xs p) (t .1) .0 in
+    ⊎-elim
+    (λ none. omega (arith, some, none, length-take (p .end - p .start) (drop (p .start) xs)))
+    (λ past. omega (arith, t .0, past, ap length (c .as-slice-source .ensures)))
+    (c .then-start-end .either))

@@ -24,5 +24,5 @@ loop-j-again g c =
     let here = map-read name xs (c .args .i) (c .index-records-i .result) (c .pre) (c .index-records-i .is) in
     let there = map-read name xs (c .loop-j .j) (c .index-records-j .result) (omega arith) (c .index-records-j .is) in
     below-more _ _ (c .loop-j .inv) (λ e.
-      let same = c .name .ensures ∙ some-same (sym there ∙ e ∙ here) ∙ sym (c .name-name .ensures) in
-      both-ways _ (c .if-eq .left) (c .eq .ensures .1 (ap (λ s. s .0) same)))
+    let same = c .name .ensures ∙ some-same (sym there ∙ e ∙ here) ∙ sym (c .name-name .ensures) in
+    both-ways _ (c .if-eq .left) (c .eq .ensures .1 (ap (λ s. s .0) same)))

@@ -17,6 +17,7 @@ returns-in-Some g c =
     let xs = c .args .trees .now in
     let (f, e, l) = c .pre in
     let item = c .in-Some .ensures tt .item in
-    let last = ap (R .size) (sym (item .1)) ∙ sym (c .size .ensures) in
-    ((λ t. rooted R xs f e l (item .3 .0) (c .in-Some .root .now) (last ∙ eqb-true _ _ t)),
-      (λ t. eq-eqb _ _ (sym last ∙ tree-size R xs t .1 _)))
+    let last = ap (R .size) (sym (item .1)) ∙ sym (c .size .ensures) in (
+      (λ t. rooted R xs f e l (item .3 .0) (c .in-Some .root .now) (last ∙ eqb-true _ _ t)),
+      (λ t. eq-eqb _ _ (sym last ∙ tree-size R xs t .1 _)),
+    )

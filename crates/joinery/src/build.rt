@@ -21,30 +21,30 @@ use tables::Tables;
 
 /// Why tables could not be made.
 #[derive(Clone, Copy)]
-pub enum Stop {
+pub(crate) enum Stop {
     NoMemory,
     Full,
 }
 
-pub impl From<AllocError> for Stop as StopFromAllocError {
+pub(crate) impl From<AllocError> for Stop as StopFromAllocError {
     fn from(_error: AllocError) -> Stop {
         Stop::NoMemory
     }
 }
 
-pub impl<T: Drop> From<Refused<T>> for Stop as StopFromRefused {
+pub(crate) impl<T: Drop> From<Refused<T>> for Stop as StopFromRefused {
     fn from(_refused: Refused<T>) -> Stop {
         Stop::NoMemory
     }
 }
 
-pub impl From<Full> for Stop as StopFromFull {
+pub(crate) impl From<Full> for Stop as StopFromFull {
     fn from(_full: Full) -> Stop {
         Stop::Full
     }
 }
 
-pub impl From<Refusal> for Stop as StopFromRefusal {
+pub(crate) impl From<Refusal> for Stop as StopFromRefusal {
     fn from(_refusal: Refusal) -> Stop {
         Stop::Full
     }
@@ -59,52 +59,52 @@ fn number(n: usize) -> Result<u16, Stop> {
 }
 
 #[derive(Drop)]
-pub struct Builder {
-    pub heap: Global,
-    pub tables: Tables,
+pub(crate) struct Builder {
+    pub(crate) heap: Global,
+    pub(crate) tables: Tables,
 }
 
 impl Builder {
     /// Tables with the built-in types.
-    pub fn new(heap: Global, limits: &Limits) -> Result<Builder, Stop> {
+    pub(crate) fn new(heap: Global, limits: &Limits) -> Result<Builder, Stop> {
         let mut tables = Tables::new(heap, limits, true)?;
         tables.add_builtins()?;
         Ok(Builder { heap, tables })
     }
 
-    pub fn name(&mut self, bytes: &[u8]) -> Result<Name, Stop> {
+    pub(crate) fn name(&mut self, bytes: &[u8]) -> Result<Name, Stop> {
         Ok(self.tables.add_name(bytes)?)
     }
 
-    pub fn symbol(&mut self, bytes: &[u8]) -> Result<Sym, Stop> {
+    pub(crate) fn symbol(&mut self, bytes: &[u8]) -> Result<Sym, Stop> {
         let name = self.name(bytes)?;
         self.symbol_at(name)
     }
 
-    pub fn symbol_at(&mut self, name: Name) -> Result<Sym, Stop> {
+    pub(crate) fn symbol_at(&mut self, name: Name) -> Result<Sym, Stop> {
         let sym = Sym(number(self.tables.symbols.len())?);
         self.tables.add_symbol(Symbol { name })?;
         Ok(sym)
     }
 
-    pub fn ty(&mut self, bytes: &[u8], kind: TypeKind) -> Result<TypeId, Stop> {
+    pub(crate) fn ty(&mut self, bytes: &[u8], kind: TypeKind) -> Result<TypeId, Stop> {
         let name = self.symbol(bytes)?;
         self.type_at(name, kind)
     }
 
-    pub fn type_at(&mut self, name: Sym, kind: TypeKind) -> Result<TypeId, Stop> {
+    pub(crate) fn type_at(&mut self, name: Sym, kind: TypeKind) -> Result<TypeId, Stop> {
         let ty = TypeId(number(self.tables.types.len())?);
         self.tables.add_type(Type { name, kind })?;
         Ok(ty)
     }
 
-    pub fn constant(&mut self, bytes: &[u8], ty: TypeId) -> Result<(), Stop> {
+    pub(crate) fn constant(&mut self, bytes: &[u8], ty: TypeId) -> Result<(), Stop> {
         let name = self.symbol(bytes)?;
         self.tables.constants.push(Constant { name, ty })?;
         Ok(())
     }
 
-    pub fn term(
+    pub(crate) fn term(
         &mut self,
         bytes: &[u8],
         args: &[TypeId],
@@ -116,7 +116,7 @@ impl Builder {
         Ok(name)
     }
 
-    pub fn term_at(
+    pub(crate) fn term_at(
         &mut self,
         name: Sym,
         args: &[TypeId],
@@ -136,7 +136,7 @@ impl Builder {
     }
 
     /// A source record at an offset of the only file.
-    pub fn source(&mut self, node: Node, size: u16, offset: u32) -> Result<(), Stop> {
+    pub(crate) fn source(&mut self, node: Node, size: u16, offset: u32) -> Result<(), Stop> {
         let pos = Pos { file: 0, offset };
         self.tables.source.push(Source { node, size, pos })?;
         Ok(())

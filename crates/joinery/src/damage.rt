@@ -17,7 +17,7 @@ use records::source::Part;
 use records::source::Pattern;
 
 #[derive(Clone, Copy)]
-pub enum Damage {
+pub(crate) enum Damage {
     MissingBuiltin,
     UnnamedType,
     TwoTypesOfOneName,
@@ -37,7 +37,7 @@ pub enum Damage {
 }
 
 impl Damage {
-    pub const ALL: [Damage; 16] = [
+    pub(crate) const ALL: [Damage; 16] = [
         Damage::MissingBuiltin,
         Damage::UnnamedType,
         Damage::TwoTypesOfOneName,
@@ -56,7 +56,7 @@ impl Damage {
         Damage::TwoSymbolsOfOneName,
     ];
 
-    pub fn describe(self) -> &'static str {
+    pub(crate) fn describe(self) -> &'static str {
         match self {
             Damage::MissingBuiltin => "only 12 types",
             Damage::UnnamedType => "a type whose symbol is not there",
@@ -77,7 +77,7 @@ impl Damage {
         }
     }
 
-    pub fn apply(self, builder: &mut Builder) -> Result<(), Stop> {
+    pub(crate) fn apply(self, builder: &mut Builder) -> Result<(), Stop> {
         match self {
             Damage::MissingBuiltin => {
                 builder.tables.types.truncate(12);

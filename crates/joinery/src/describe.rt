@@ -126,7 +126,7 @@ fn template(rt: &LibcRuntime, tables: &Tables, part: Part) -> io::Result<()> {
     Ok(())
 }
 
-pub fn environment(rt: &LibcRuntime, tables: &Tables) -> io::Result<()> {
+pub(crate) fn environment(rt: &LibcRuntime, tables: &Tables) -> io::Result<()> {
     let symbols = tables.symbols.len();
     println!(rt, "{symbols} symbols")?;
     for (i, ty) in tables.types.as_slice().iter().enumerate() {

@@ -13,9 +13,9 @@ use records::source::Pattern;
 use std::alloc::Global;
 use tables::Limits;
 
-pub const LEN: TypeId = TypeId(13);
+pub(crate) const LEN: TypeId = TypeId(13);
 
-pub const BOARD: TypeId = TypeId(14);
+pub(crate) const BOARD: TypeId = TypeId(14);
 
 /// Small tables do for a few terms.
 const LIMITS: Limits = Limits {
@@ -34,7 +34,7 @@ const LIMITS: Limits = Limits {
     scopes: 16,
 };
 
-pub const NO_FLAGS: TermFlags = TermFlags {
+pub(crate) const NO_FLAGS: TermFlags = TermFlags {
     pure: false,
     multi: false,
     partial: false,
@@ -49,7 +49,7 @@ const PURE: TermFlags = TermFlags {
 };
 
 /// A pure term without constructor whose extractor is the template.
-pub fn templated(template: Part) -> TermKind {
+pub(crate) fn templated(template: Part) -> TermKind {
     TermKind::Decl {
         flags: PURE,
         constructor_kind: None,
@@ -58,7 +58,7 @@ pub fn templated(template: Part) -> TermKind {
 }
 
 /// A term that rules construct.
-pub fn by_rules() -> TermKind {
+pub(crate) fn by_rules() -> TermKind {
     TermKind::Decl {
         flags: NO_FLAGS,
         constructor_kind: Some(ConstructorKind::Internal),
@@ -76,7 +76,7 @@ fn by_host() -> TermKind {
 }
 
 /// The template `(edge <argument index>)`, laid out at the end of the source list.
-pub fn edge_template(builder: &mut Builder, index: u16) -> Result<Part, Stop> {
+pub(crate) fn edge_template(builder: &mut Builder, index: u16) -> Result<Part, Stop> {
     let Ok(start) = u32::try_from(builder.tables.source.len()) else {
         return Err(Stop::Full);
     };
@@ -89,7 +89,7 @@ pub fn edge_template(builder: &mut Builder, index: u16) -> Result<Part, Stop> {
     })
 }
 
-pub fn joinery(heap: Global) -> Result<Builder, Stop> {
+pub(crate) fn joinery(heap: Global) -> Result<Builder, Stop> {
     let mut builder = Builder::new(heap, &LIMITS)?;
     builder.ty(b"Len", TypeKind::Primitive)?;
     builder.ty(b"Board", TypeKind::Primitive)?;

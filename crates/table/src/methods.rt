@@ -11,6 +11,12 @@ use super::Table;
 use std::alloc::AllocError;
 use std::alloc::Global;
 
+fn item_at<T>(items: &[T], i: usize) -> Option<&T>
+    ensures { λ r. ⌜ mapped now r ≡ nth (now (items .entry)) i ⌝ }
+{
+    items.get(i)
+}
+
 impl<T, const MAX: usize> Table<T, MAX> {
     /// An empty table of the given limit; a limit over the maximum counts as the maximum.
     pub fn with_limit(heap: Global, limit: usize) -> Result<Table<T, MAX>, AllocError>
@@ -44,11 +50,7 @@ impl<T, const MAX: usize> Table<T, MAX> {
     pub fn get(&self, i: usize) -> Option<&T>
         ensures { λ r. ⌜ mapped now r ≡ nth (shelf (now (self .entry)) .items) i ⌝ }
     {
-        if i < self.len() {
-            Some(&self.items[i])
-        } else {
-            None
-        }
+        item_at(self.as_slice(), i)
     }
 
     /// One more item, or a refusal where the limit is reached, which changes nothing.

@@ -1,11 +1,11 @@
-ghost use mathlib.Core.List.{[]};
+// What a table does, by the list of its items and its limit.
 ghost use mathlib.Core.Path.{_≡_};
 ghost use Prim.Native.Nat.{min, _≤_};
 ghost use lib.ListN.{length};
 ghost use Rattle.std.specs.Options.{mapped};
 ghost use Rattle.std.specs.Vec.{made};
 ghost use Rattle.std.specs.shelf.Maps.{nth};
-ghost use Rattle.table.specs.Shelf.{Shelf, shelf, empty, put, put-all, cut, Told, told};
+ghost use Rattle.table.specs.Shelf.{shelf, empty, put, put-all, cut, told};
 use super::Full;
 use super::Table;
 use std::alloc::AllocError;

@@ -1,5 +1,5 @@
 -- What stands at a place of a list, and of what is made of it item by item.
-use mathlib.Core.Bool.{Bool, true, false}
+use mathlib.Core.Bool.{Bool}
 use mathlib.Core.List.{List, [], _∷_, map}
 use mathlib.Core.Logic.{⊎-elim}
 use mathlib.Core.Path.{_≡_, refl, sym, ap, subst, _∙_}
@@ -8,7 +8,7 @@ use native.Mathlib.Omega.{arith}
 use lib.Dec.{leb}
 use lib.ListN.{length, getD}
 use Rattle.std.proofs.shelf.Maps.{nth-read, nth-getD, nth-past}
-use Rattle.std.proofs.shelf.Tests.{false≢true, cases-lt, leb-true, le-leb}
+use Rattle.std.proofs.shelf.Tests.{cases-lt, leb-true, le-leb}
 use Rattle.std.specs.declared.option.Option.the-variants.{Some, None}
 use Rattle.std.specs.Options.{mapped}
 use Rattle.std.specs.Orderings.{Decides}
@@ -40,10 +40,6 @@ pub free : {X : Type 0} (xs : List X) (i : ℕ) → None ≡ nth xs i → length
 free {X} [] i e = omega arith
 free (x ∷ xs) zero e = absurd (some-none (sym e))
 free (x ∷ xs) (suc i) e = suc-le-suc (free xs i e)
-
--- a test that failed decides what does not hold
-pub fails : {P : Type 0} → (P → ⊥) → Decides false P
-fails n = (λ e. absurd (false≢true e), λ p. absurd (n p))
 
 -- What is decided of the record at a place is decided of the place.
 module _ {X : Type 0} (xs : List X) (i : ℕ) (P : X → Type 0) where

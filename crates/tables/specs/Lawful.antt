@@ -165,15 +165,15 @@ module _ (e : Env) where
     pub bad : Keeps t i → ⊥
 
   -- the refusal names the first bad record
-  abbrev pub Names : Refusal → Type 0
-  Names (refusal.UnlawfulTable t i) = FirstBad t i
-  Names (refusal.UnlawfulDefinition i) = ⊥
-  Names (refusal.TooDeep i) = ⊥
-  Names (refusal.Full t) = ⊥
-  Names (refusal.NoConverter t) = ⊥
-  Names (refusal.NoRule r) = ⊥
-  Names (refusal.NotSingle t) = ⊥
-  Names (refusal.OtherSignature t) = ⊥
-  Names (refusal.WrongArgument p) = ⊥
-  Names (refusal.ShortList n) = ⊥
-  Names (refusal.UnlawfulRow r) = ⊥
+  abbrev pub NamesFirstBad : Refusal → Type 0
+  NamesFirstBad (refusal.UnlawfulTable t i) = FirstBad t i
+  NamesFirstBad (refusal.UnlawfulDefinition i) = ⊥
+  NamesFirstBad (refusal.TooDeep i) = ⊥
+  NamesFirstBad (refusal.Full t) = ⊥
+  NamesFirstBad (refusal.NoConverter t) = ⊥
+  NamesFirstBad (refusal.NoRule r) = ⊥
+  NamesFirstBad (refusal.NotSingle t) = ⊥
+  NamesFirstBad (refusal.OtherSignature t) = ⊥
+  NamesFirstBad (refusal.WrongArgument p) = ⊥
+  NamesFirstBad (refusal.ShortList n) = ⊥
+  NamesFirstBad (refusal.UnlawfulRow r) = ⊥

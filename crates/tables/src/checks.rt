@@ -4,7 +4,7 @@ ghost use Prim.Native.Nat.{ℕ, _<_, _≤_};
 ghost use Rattle.std.specs.Orderings.{Decides};
 ghost use Rattle.std.specs.Options.{Cases};
 ghost use Rattle.std.specs.Results.{Cases as ByOk};
-ghost use Rattle.tables.specs.Lawful.{Keeps, Lawful, Names};
+ghost use Rattle.tables.specs.Lawful.{Keeps, Lawful, NamesFirstBad};
 ghost use Rattle.tables.specs.View.{env, view};
 use crate::Tables;
 use crate::names::BUILTINS;
@@ -101,7 +101,7 @@ impl Tables {
 
     /// Whether the tables are lawful; if not, which table breaks a rule first, and at which record.
     pub fn check(&self) -> Result<(), Refusal>
-        ensures { λ r. ⌜ ByOk r (λ _. Lawful (env (view (now (self .entry))))) (λ e. Names (env (view (now (self .entry)))) e) ⌝ }
+        ensures { λ r. ⌜ ByOk r (λ _. Lawful (env (view (now (self .entry))))) (λ e. NamesFirstBad (env (view (now (self .entry)))) e) ⌝ }
     {
         for table in TableId::ALL {
             if let Some(record) = self.first_bad(table) {

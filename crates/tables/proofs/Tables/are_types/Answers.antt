@@ -6,7 +6,7 @@ use Rattle.std.proofs.shelf.Tests.{both-ways}
 use Rattle.std.specs.shelf.Lists.{All}
 use Rattle.tables.specs.Lawful.{IsType}
 use Rattle.tables.specs.View.{env, view}
-use Rattle.tables.proofs.Places.{fails}
+use Rattle.tree.proofs.Walks.{fails}
 use Rattle.tables.proofs.Tables.are_types.Needs as need
 
 pub returns-then-not-is-type : need.returns-then-not-is-type

@@ -1,7 +1,7 @@
 use mathlib.Core.Path.{refl, _∙_}
 use native.Mathlib.Omega.{arith}
 use Rattle.std.proofs.shelf.Tests.{both-ways}
-use Rattle.tables.proofs.Places.{fails}
+use Rattle.tree.proofs.Walks.{fails}
 use Rattle.tables.proofs.Tables.is_good_term.Needs as need
 
 pub returns-then-not-is-new : need.returns-then-not-is-new

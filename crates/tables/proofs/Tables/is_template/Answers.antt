@@ -7,7 +7,7 @@ use Rattle.std.proofs.shelf.Lists.{length-take}
 use Rattle.tree.proofs.Forests.{tree-size}
 use Rattle.tables.specs.Lawful.{slice}
 use Rattle.tables.specs.Template.{template-rules}
-use Rattle.tables.proofs.Places.{fails}
+use Rattle.tree.proofs.Walks.{fails}
 use Rattle.tables.proofs.Tables.is_template.Needs as need
 
 pub returns-then-start-end : need.returns-then-start-end

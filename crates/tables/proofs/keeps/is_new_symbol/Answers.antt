@@ -9,7 +9,8 @@ use Rattle.std.specs.declared.option.Option.the-variants.{Some}
 use Rattle.std.specs.Options.{mapped}
 use Rattle.records.specs.declared.env.Symbol.{Symbol}
 use Rattle.tables.specs.Names.{bytes}
-use Rattle.tables.proofs.Places.{fails, map-at, some-same}
+use Rattle.tree.proofs.Walks.{fails}
+use Rattle.tables.proofs.Places.{map-at, some-same}
 use Rattle.tables.proofs.keeps.is_new_symbol.Needs as need
 
 pub same-name-requires : need.same-name-requires

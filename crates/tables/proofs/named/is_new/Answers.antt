@@ -4,7 +4,8 @@ use native.Mathlib.Omega.{arith}
 use Rattle.std.proofs.shelf.Tests.{both-ways}
 use Rattle.std.specs.declared.option.Option.the-variants.{Some}
 use Rattle.records.specs.declared.ids.Sym.{Sym}
-use Rattle.tables.proofs.Places.{map-read, fails, some-same}
+use Rattle.tree.proofs.Walks.{fails}
+use Rattle.tables.proofs.Places.{map-read, some-same}
 use Rattle.tables.proofs.named.is_new.Needs as need
 
 pub returns-then-eq : need.returns-then-eq

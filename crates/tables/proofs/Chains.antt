@@ -1,5 +1,5 @@
 -- How an answer follows a chain of steps: `then` past a step that was done, `stop` at one that was refused, `fails` at the exit of a `?`.
-use mathlib.Core.Path.{_≡_, refl, sym, ap, _∙_}
+use mathlib.Core.Path.{_≡_, ap, _∙_}
 use Rattle.std.specs.Results.{ErrBy}
 use Rattle.std.specs.declared.result.Result.{Result}
 use Rattle.std.specs.declared.result.Result.the-variants.{Ok, Err}

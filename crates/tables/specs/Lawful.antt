@@ -2,13 +2,12 @@
 use mathlib.Core.List.{List, [], _∷_, map}
 use mathlib.Core.Path.{_≡_}
 use Prim.Native.Nat.{ℕ, zero, suc, _-_, _<_, _≤_}
-use lib.ListN.{length, take, drop}
+use lib.ListN.{length, getD, take, drop}
 use Rattle.std.specs.declared.option.Option.{Option}
 use Rattle.std.specs.declared.option.Option.the-variants.{Some, None}
 use Rattle.std.specs.Of.Vec.{vec-items}
 use Rattle.std.specs.shelf.Lists.{All}
 use Rattle.std.specs.shelf.Maps.{nth}
-use Rattle.table.specs.Shelf.{Shelf}
 use Rattle.tree.specs.Layout.{IsTree}
 use Rattle.records.specs.Numbers.{table-number}
 use Rattle.records.specs.declared.env.Constant.{Constant}
@@ -135,7 +134,7 @@ module _ (e : Env) where
 
   pub record SymbolGood (i : ℕ) (s : Symbol) : Type 0 where
     pub inside : Inside (e .text) (s .name)
-    pub builtin : i < 13 → nth builtin-names i ≡ Some (bytes (e .text) (s .name))
+    pub builtin : i < 13 → bytes (e .text) (s .name) ≡ getD builtin-names i []
     pub new : New names i
 
   -- What record i of a table has to keep. The built-in types and symbols have to be there.

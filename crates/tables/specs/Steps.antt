@@ -1,7 +1,6 @@
 -- Calls that add to tables and may be refused, as functions on all tables.
-use mathlib.Core.Bool.{cond}
 use mathlib.Core.List.{List, [], _∷_}
-use Prim.Native.Nat.{ℕ, zero, suc}
+use Prim.Native.Nat.{ℕ, suc}
 use lib.ListN.{length}
 use Rattle.table.specs.Shelf.{Shelf, Told, done, refused, put, put-all}
 use Rattle.table.specs.declared.Full.{Full}
@@ -13,7 +12,6 @@ use Rattle.records.specs.declared.refusal.TableId.{TableId}
 use Rattle.records.specs.declared.refusal.TableId.the-variants as table
 use Rattle.records.specs.declared.source.Name.{Name}
 use Rattle.tables.specs.Lawful.{builtin-type}
-use Rattle.tables.specs.Names.{builtin-names}
 use Rattle.tables.specs.View.{View}
 
 -- what a call leaves and answers, or what it leaves and why it is refused

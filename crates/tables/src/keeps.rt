@@ -1,8 +1,8 @@
 // Whether one record of a table keeps the rules.
-ghost use mathlib.Core.List.{map};
+ghost use mathlib.Core.List.{[], map};
 ghost use mathlib.Core.Path.{_≡_};
 ghost use Prim.Native.Nat.{ℕ, _+_, _<_};
-ghost use lib.ListN.{length};
+ghost use lib.ListN.{length, getD};
 ghost use Rattle.std.specs.Orderings.{Decides};
 ghost use Rattle.std.specs.declared.option.Option.the-variants.{Some};
 ghost use Rattle.std.specs.Of.Vec.{vec-items};
@@ -203,7 +203,7 @@ fn are_expr_names(text: &[u8], expr: Expr) -> bool
 /// Whether the symbol has the built-in name of that number, where there is one.
 fn has_builtin_name(text: &[u8], number: usize, symbol: Symbol) -> bool
     requires { ⌜ Inside (now text) (symbol .name) ⌝ }
-    ensures { λ r. ⌜ Decides r (number < 13 → nth builtin-names number ≡ Some (bytes (now (text .entry)) (symbol .name))) ⌝ }
+    ensures { λ r. ⌜ Decides r (number < 13 → bytes (now (text .entry)) (symbol .name) ≡ getD builtin-names number []) ⌝ }
 {
     number >= BUILTINS || builtin_name(number) == bytes_of(text, symbol.name)
 }

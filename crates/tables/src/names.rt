@@ -1,11 +1,11 @@
 // Names as parts of the text, and the names of the built-in types.
+ghost use mathlib.Core.List.{[]};
 ghost use mathlib.Core.Path.{_≡_};
 ghost use Prim.Native.Nat.{_<_};
+ghost use lib.ListN.{getD};
 ghost use Rattle.std.specs.Orderings.{Decides};
-ghost use Rattle.std.specs.declared.option.Option.the-variants.{Some};
-ghost use Rattle.std.specs.shelf.Maps.{nth};
 ghost use Rattle.tables.specs.Lawful.{builtin-type};
-ghost use Rattle.tables.specs.Names.{Inside, bytes, «builtin-names» as builtins};
+ghost use Rattle.tables.specs.Names.{Inside, bytes, builtin-names};
 use records::env::Type;
 use records::env::TypeKind;
 use records::ids::Sym;
@@ -14,9 +14,9 @@ use records::source::Name;
 /// How many types are built in.
 pub const BUILTINS: usize = 13;
 
-/// The name of built-in type `i`, which is symbol `i`; none past the last.
+/// The name of built-in type `i`, which is symbol `i`; no bytes past the last.
 pub fn builtin_name(i: usize) -> &'static [u8]
-    ensures { λ r. ⌜ (i < 13 → nth builtins i ≡ Some (now r)) ⌝ }
+    ensures { λ r. ⌜ now r ≡ getD builtin-names i [] ⌝ }
 {
     match i {
         0 => b"bool",

@@ -1,7 +1,6 @@
 -- Laws of the layout: a list lays out one forest at most, and what stands in front of any of its records is laid out too.
-use mathlib.Core.Bool.{true, false}
 use mathlib.Core.List.{List, [], _∷_, _++_}
-use mathlib.Core.Logic.{inl, inr, ⊎-elim}
+use mathlib.Core.Logic.{⊎-elim}
 use mathlib.Core.Path.{_≡_, refl, sym, ap, subst, _∙_}
 use Prim.Native.Nat.{ℕ, _+_, _-_, _≤_, _<_}
 use native.Mathlib.Omega.{arith}
@@ -9,7 +8,7 @@ use lib.ListN.{length, take, drop, getD}
 use lib.Seq.{take-append-add}
 use Rattle.std.proofs.shelf.Lists.{append-nil, append-assoc, length-append, length-push, same-from-push, take-at, drop-at, take-append-le, take-all, getD-push}
 use Rattle.std.proofs.shelf.Tests.{cases-lt}
-use Rattle.tree.specs.Layout.{Forest, none, next, flat, Rules, empty, Below, Lawful, IsForest, IsTree}
+use Rattle.tree.specs.Layout.{Forest, none, next, flat, Rules, Lawful, IsForest, IsTree}
 
 infixl 20 _⧺_
 -- the trees of the first, then those of the second

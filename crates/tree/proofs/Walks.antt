@@ -1,22 +1,22 @@
 -- The walk back from a root over the trees in front of it, and what it decides.
 use mathlib.Core.Bool.{Bool, true, false, _&&_, cond}
 use mathlib.Core.List.{List, [], _∷_, _++_}
-use mathlib.Core.Logic.{inl, inr, ⊎-elim}
+use mathlib.Core.Logic.{⊎-elim}
 use mathlib.Core.Path.{_≡_, refl, sym, ap, subst, _∙_}
 use Prim.Native.Nat.{ℕ, _+_, _-_, _≤_, _<_}
 use native.Mathlib.Omega.{arith}
 use lib.Dec.{eqb, leb}
 use lib.ListN.{length, take, getD}
 use Rattle.std.proofs.shelf.Lists.{append-assoc, same-from-push, take-more, take-take, take-at, length-take-le, getD-take, length-append}
-use Rattle.std.proofs.shelf.Tests.{false≢true, and-parts, and-from, and-left, and-right, lt-leb, eq-eqb, ne-eqb, eqb-true, eqb-false, le-leb, leb-true, cases-bool}
+use Rattle.std.proofs.shelf.Tests.{false≢true, and-parts, and-from, and-left, and-right, lt-leb, ne-eqb, eqb-true, le-leb, leb-true, cases-bool}
 use Rattle.std.proofs.shelf.Ways.{tells, decides-at, not-from-decides}
 use Rattle.std.specs.Orderings.{Decides}
 use Rattle.tree.specs.Layout.{Forest, none, next, flat, Rules, empty, Below, Lawful, IsForest}
 use Rattle.tree.proofs.Forests.{_⧺_, flat-join, flat-next, length-next, last-root, lawful-join, lawful-split, unique}
 
 -- a test that failed decides what does not hold
-pub fails : {P : Type 0} → (P → ⊥) → Decides false P
-fails n = (λ e. absurd (false≢true e), λ p. absurd (n p))
+pub refuted : {P : Type 0} → (P → ⊥) → Decides false P
+refuted n = (λ e. absurd (false≢true e), λ p. absurd (n p))
 
 -- whether the last trees fill exactly `left` records and may stand below r, where `after` more stand there after them
 abbrev pub walk : {N : Type 0} → Rules N → N → ℕ → ℕ → Forest N → Bool

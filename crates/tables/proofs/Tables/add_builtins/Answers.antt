@@ -1,10 +1,10 @@
-use mathlib.Core.List.{List, [], _∷_}
-use mathlib.Core.Path.{_≡_, refl, sym, ap, _∙_}
-use Prim.Native.Nat.{ℕ, suc, _+_}
+use mathlib.Core.List.{[]}
+use mathlib.Core.Path.{_≡_, sym, _∙_}
+use Prim.Native.Nat.{suc, _+_}
 use native.Mathlib.Numerals.{add-one}
 use native.Mathlib.Omega.{arith}
-use lib.ListN.{getD, drop}
-use Rattle.std.proofs.shelf.Lists.{at-drop-more, at-drop-all}
+use lib.ListN.{drop}
+use Rattle.std.proofs.shelf.Lists.{at-drop-more}
 use Rattle.tables.specs.Names.{builtin-names}
 use Rattle.tables.specs.Steps.{add-builtins}
 use Rattle.tables.specs.View.{view}

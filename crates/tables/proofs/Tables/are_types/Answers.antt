@@ -6,12 +6,12 @@ use Rattle.std.proofs.shelf.Tests.{both-ways}
 use Rattle.std.specs.shelf.Lists.{All}
 use Rattle.tables.specs.Lawful.{IsType}
 use Rattle.tables.specs.View.{env, view}
-use Rattle.tree.proofs.Walks.{fails}
+use Rattle.tree.proofs.Walks.{refuted}
 use Rattle.tables.proofs.Tables.are_types.Needs as need
 
 pub returns-then-not-is-type : need.returns-then-not-is-type
 returns-then-not-is-type c =
-    fails (λ all. both-ways _ (c .if-not-is-type .taken) (c .is-type .ensures .1 (all-getD (IsType (env (view (c .args .self .now)))) (c .args .types .now) _ _ (omega arith) all)))
+    refuted (λ all. both-ways _ (c .if-not-is-type .taken) (c .is-type .ensures .1 (all-getD (IsType (env (view (c .args .self .now)))) (c .args .types .now) _ _ (omega arith) all)))
 
 pub loop-ty-again : need.loop-ty-again
 loop-ty-again c =

@@ -1,7 +1,6 @@
 use borrow.Author.Count.{below-more}
 use mathlib.Core.List.{map}
-use mathlib.Core.Path.{_≡_, refl, sym, ap, subst, _∙_}
-use native.Mathlib.Omega.{arith}
+use mathlib.Core.Path.{refl, sym, ap, subst, _∙_}
 use Rattle.std.specs.Orderings.{Decides}
 use Rattle.tables.specs.Lawful.{IfAt, names}
 use Rattle.tables.specs.Names.{Inside, New, bytes}

@@ -1,13 +1,13 @@
 use mathlib.Core.Path.{refl, _∙_}
 use native.Mathlib.Omega.{arith}
 use Rattle.std.proofs.shelf.Tests.{both-ways}
-use Rattle.tree.proofs.Walks.{fails}
+use Rattle.tree.proofs.Walks.{refuted}
 use Rattle.tables.proofs.Tables.is_good_term.Needs as need
 
 pub returns-then-not-is-new : need.returns-then-not-is-new
 returns-then-not-is-new c =
     let new = rw (c .as-slice-2 .ensures) at (c .is-new .ensures) in
-    fails (λ good. both-ways _ (c .if-not-is-new .taken) (new .1 (good .new)))
+    refuted (λ good. both-ways _ (c .if-not-is-new .taken) (new .1 (good .new)))
 
 pub returns : need.returns
 returns c =

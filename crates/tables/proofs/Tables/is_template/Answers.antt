@@ -7,14 +7,14 @@ use Rattle.std.proofs.shelf.Lists.{length-take}
 use Rattle.tree.proofs.Forests.{tree-size}
 use Rattle.tables.specs.Lawful.{slice}
 use Rattle.tables.specs.Template.{template-rules}
-use Rattle.tree.proofs.Walks.{fails}
+use Rattle.tree.proofs.Walks.{refuted}
 use Rattle.tables.proofs.Tables.is_template.Needs as need
 
 pub returns-then-start-end : need.returns-then-start-end
 returns-then-start-end c =
     let xs = c .args .self .now .source .items .items in
     let p = c .args .part in
-    fails (λ t.
+    refuted (λ t.
     let some = tree-size (template-rules (c .args .arity)) (slice xs p) (t .1) .0 in
     ⊎-elim
     (λ none. omega (arith, some, none, length-take (p .end - p .start) (drop (p .start) xs)))

@@ -1,15 +1,14 @@
 use borrow.Author.Count.{below-more}
 use mathlib.Core.List.{List}
-use mathlib.Core.Path.{_≡_, refl, sym, ap, _∙_}
+use mathlib.Core.Path.{refl, sym, ap, _∙_}
 use Prim.Native.Nat.{ℕ}
 use native.Mathlib.Omega.{arith}
 use Rattle.std.proofs.shelf.Maps.{nth-getD}
 use Rattle.std.proofs.shelf.Tests.{both-ways}
 use Rattle.std.specs.declared.option.Option.the-variants.{Some}
-use Rattle.std.specs.Options.{mapped}
 use Rattle.records.specs.declared.env.Symbol.{Symbol}
 use Rattle.tables.specs.Names.{bytes}
-use Rattle.tree.proofs.Walks.{fails}
+use Rattle.tree.proofs.Walks.{refuted}
 use Rattle.tables.proofs.Places.{map-at, some-same}
 use Rattle.tables.proofs.keeps.is_new_symbol.Needs as need
 
@@ -27,7 +26,7 @@ returns-then-same-name c =
     let xs = c .args .symbols .now in
     let here = map-at name xs (c .args .i) _ (c .pre .within) in
     let there = map-at name xs (c .loop-j .j) _ (omega arith) in
-    fails (λ new. new (c .loop-j .j) (c .loop-j-test .taken) (there ∙ ap Some (c .if-same-name .ensures tt .0 refl) ∙ sym here))
+    refuted (λ new. new (c .loop-j .j) (c .loop-j-test .taken) (there ∙ ap Some (c .if-same-name .ensures tt .0 refl) ∙ sym here))
 
 pub loop-j-again : need.loop-j-again
 loop-j-again c =

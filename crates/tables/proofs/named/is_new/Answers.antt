@@ -3,8 +3,7 @@ use mathlib.Core.Path.{_≡_, refl, sym, ap, _∙_}
 use native.Mathlib.Omega.{arith}
 use Rattle.std.proofs.shelf.Tests.{both-ways}
 use Rattle.std.specs.declared.option.Option.the-variants.{Some}
-use Rattle.records.specs.declared.ids.Sym.{Sym}
-use Rattle.tree.proofs.Walks.{fails}
+use Rattle.tree.proofs.Walks.{refuted}
 use Rattle.tables.proofs.Places.{map-read, some-same}
 use Rattle.tables.proofs.named.is_new.Needs as need
 
@@ -16,7 +15,7 @@ returns-then-eq g c =
     let there = map-read name xs (c .loop-j .j) (c .index-records-j .result) (omega arith) (c .index-records-j .is) in
     let number = c .if-eq .ensures tt .0 refl in
     let same : c .name .result ≡ c .name-name .result = λ k. record { 0 = number k } in
-    fails (λ new. new (c .loop-j .j) (c .loop-j-test .taken) (there ∙ ap Some (sym (c .name .ensures) ∙ same ∙ c .name-name .ensures) ∙ sym here))
+    refuted (λ new. new (c .loop-j .j) (c .loop-j-test .taken) (there ∙ ap Some (sym (c .name .ensures) ∙ same ∙ c .name-name .ensures) ∙ sym here))
 
 pub loop-j-again : need.loop-j-again
 loop-j-again g c =

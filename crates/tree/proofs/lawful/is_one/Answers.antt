@@ -1,15 +1,14 @@
-use mathlib.Core.Bool.{true, false}
-use mathlib.Core.Path.{_≡_, sym, ap, _∙_}
+use mathlib.Core.Bool.{true}
+use mathlib.Core.Path.{sym, ap, _∙_}
 use native.Mathlib.Omega.{arith}
-use lib.ListN.{length}
 use Rattle.std.proofs.shelf.Tests.{eqb-true, eq-eqb}
 use Rattle.tree.proofs.Forests.{rooted, tree-size}
-use Rattle.tree.proofs.Walks.{fails}
+use Rattle.tree.proofs.Walks.{refuted}
 use Rattle.tree.proofs.lawful.is_one.Needs as need
 
 pub returns-in-None : need.returns-in-None
 returns-in-None g c =
-    fails (λ t. omega (arith, tree-size (g .G·Grammar .rules (c .args .grammar .now)) (c .args .trees .now) t .0, c .in-None .ensures tt .item .3))
+    refuted (λ t. omega (arith, tree-size (g .G·Grammar .rules (c .args .grammar .now)) (c .args .trees .now) t .0, c .in-None .ensures tt .item .3))
 
 pub returns-in-Some : need.returns-in-Some
 returns-in-Some g c =

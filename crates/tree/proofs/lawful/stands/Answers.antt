@@ -1,18 +1,17 @@
-use mathlib.Core.Bool.{true, false}
-use mathlib.Core.Path.{_≡_, sym, subst, ap, _∙_}
+use mathlib.Core.Path.{sym}
 use Prim.Native.Nat.{_+_, _-_, _<_, _≤_}
 use native.Mathlib.Omega.{arith}
 use lib.ListN.{length, take}
 use Rattle.std.proofs.shelf.Ways.{decides-at}
 use Rattle.tree.specs.Layout.{IsForest}
-use Rattle.tree.proofs.Walks.{fails, Going, size-fits, walk-decides, going-done, going-wide, going-unfit, going-on}
+use Rattle.tree.proofs.Walks.{refuted, Going, size-fits, walk-decides, going-done, going-wide, going-unfit, going-on}
 use Rattle.tree.proofs.lawful.stands.Given.{Over}
 use Rattle.tree.proofs.lawful.stands.Needs as need
 use Rattle.tree.proofs.lawful.stands.Needs.{then-size-eq0·by·then-size-eq0, then-size-eq0·by·else-size-eq0·then-size-i, then-width-end·by·then-width-end, then-width-end·by·else-width-end·then-not-takes}
 
 pub returns-then-size-eq0 : need.returns-then-size-eq0
 returns-then-size-eq0 g c =
-    fails (λ f.
+    refuted (λ f.
     let h = size-fits (g .G·Grammar .rules (c .args .grammar .now)) (c .index-part-i .result) (c .args .part .now) (c .args .i) (c .pre .within) (sym (c .index-part-i .is)) f in
     elim (c .then-size-eq0 .came) [
       | then-size-eq0·by·then-size-eq0 w ↦ omega (arith, h .0, w .if-size-eq0 .taken)
@@ -34,7 +33,7 @@ returns-then-width-end g c =
     let (low, high, going) = c .loop-end .inv in
     let within : c .loop-end .end ≤ length xs = omega arith in
     let some : 0 < c .loop-end .end - (c .args .i + 1 - c .size-size .result) = omega arith in
-    fails (elim (c .then-width-end .came) [
+    refuted (elim (c .then-width-end .came) [
       | then-width-end·by·then-width-end w ↦
           going-wide R _ xs _ _ _ _ within some (omega arith) (c .index-part-end .result) (sym (c .index-part-end .is)) _ (c .size-width .ensures) (w .if-width-end .taken) going
       | then-width-end·by·else-width-end·then-not-takes w ↦

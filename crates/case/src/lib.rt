@@ -1,4 +1,6 @@
 // Reading case files: one line as a typed value.
+#![tactic(auto)]
+
 mod calls;
 mod environment;
 mod fields;

@@ -1,4 +1,6 @@
 // Reads a case file from standard input, performs its calls and prints what each answered.
+#![tactic(auto)]
+
 mod build;
 mod calls;
 mod dump;

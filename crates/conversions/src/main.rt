@@ -1,4 +1,6 @@
 // The converters of the joinery: registered, good and bad, and what is in the tables then.
+#![tactic(auto)]
+
 mod build;
 mod converters;
 mod describe;

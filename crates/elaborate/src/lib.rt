@@ -1,4 +1,6 @@
 // Elaboration of rules: from tables of any content to typed rules, one stage after the other.
+#![tactic(auto)]
+
 mod closing;
 mod converters;
 mod faults;

@@ -1,4 +1,6 @@
 // What a line of a case file says, and the order that lines may stand in.
+#![tactic(auto)]
+
 mod faults;
 mod items;
 mod places;

@@ -1,4 +1,6 @@
 // The joinery environment: opened, described, and damaged in a dozen ways that opening refuses.
+#![tactic(auto)]
+
 mod build;
 mod damage;
 mod describe;

@@ -1,4 +1,6 @@
 // Looking up what names stand for: symbols by their bytes; types, constants and terms by their symbol; converters by their pair of types.
+#![tactic(auto)]
+
 mod by_name;
 mod converters;
 mod names;

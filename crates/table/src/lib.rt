@@ -1,4 +1,6 @@
 // A list with a limit whose memory is claimed once, when it is made.
+#![tactic(auto)]
+
 ghost use Rattle.std.specs.Prelude.{◌≤◌, vec_len, vec_capacity};
 
 mod methods;

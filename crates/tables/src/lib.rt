@@ -1,4 +1,6 @@
 // A new elaboration: thirteen tables of any content, and the test that they are lawful.
+#![tactic(auto)]
+
 mod adding;
 mod checks;
 mod keeps;

@@ -6,8 +6,8 @@ use crate::Grammar;
 /// Whether record `i`, behind records that lay out trees, goes on laying out trees: the last of those fill its size exactly and may stand below it.
 fn stands<G: Grammar>(grammar: &G, part: &[G::Node], i: usize) -> bool
     requires within { i < length part.now }
-    requires before { IsForest (rules grammar.now) (take i part.now) }
-    ensures { Decides result (IsForest (rules grammar.now) (take (i + 1) part.now)) }
+    requires before { IsForest (G.rules grammar.now) (take i part.now) }
+    ensures { Decides result (IsForest (G.rules grammar.now) (take (i + 1) part.now)) }
 {
     let root = &part[i];
     let size = grammar.size(root);
@@ -31,7 +31,7 @@ fn stands<G: Grammar>(grammar: &G, part: &[G::Node], i: usize) -> bool
 
 /// The first bad record: the first at which the records so far stop laying out trees.
 pub fn first_bad<G: Grammar>(grammar: &G, part: &[G::Node]) -> Option<usize>
-    ensures { MatchOption result (IsForest (rules grammar.now) part.now) (λ i. (i < length part.now) × IsForest (rules grammar.now) (take i part.now) × (IsForest (rules grammar.now) (take (i + 1) part.now) → ⊥)) }
+    ensures { MatchOption result (IsForest (G.rules grammar.now) part.now) (λ i. (i < length part.now) × IsForest (G.rules grammar.now) (take i part.now) × (IsForest (G.rules grammar.now) (take (i + 1) part.now) → ⊥)) }
 {
     for i in 0..part.len() {
         if !stands(grammar, part, i) {
@@ -43,8 +43,8 @@ pub fn first_bad<G: Grammar>(grammar: &G, part: &[G::Node]) -> Option<usize>
 
 /// Whether trees one after another are just one: the last one's root counts all records.
 fn is_one<G: Grammar>(grammar: &G, trees: &[G::Node]) -> bool
-    requires { IsForest (rules grammar.now) trees.now }
-    ensures { Decides result (IsTree (rules grammar.now) trees.now) }
+    requires { IsForest (G.rules grammar.now) trees.now }
+    ensures { Decides result (IsTree (G.rules grammar.now) trees.now) }
 {
     match trees.last() {
         Some(root) => grammar.size(root) == trees.len(),
@@ -54,7 +54,7 @@ fn is_one<G: Grammar>(grammar: &G, trees: &[G::Node]) -> bool
 
 /// Whether the records lay out one tree.
 pub fn is_tree<G: Grammar>(grammar: &G, part: &[G::Node]) -> bool
-    ensures { Decides result (IsTree (rules grammar.now) part.now) }
+    ensures { Decides result (IsTree (G.rules grammar.now) part.now) }
 {
     match first_bad(grammar, part) {
         Some(_) => false,

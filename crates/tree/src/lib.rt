@@ -1,4 +1,6 @@
 // Trees as parts of one list of records: the root last, and its size counts all of the tree.
+#![tactic(auto)]
+
 ghost use Rattle.std.specs.Prelude.{◌≡◌};
 ghost use Rattle.tree.specs.Layout.{Rules};
 

@@ -1,4 +1,6 @@
 // Lines, words and numbers of a text.
+#![tactic(auto)]
+
 mod cutting;
 mod numerals;
 

@@ -8,20 +8,20 @@ returns-then-not-is-numeral c = record { value = not_numeral _ _ (sym c.if-not-i
 pub returns-then-n-max : goal.returns-then-n-max
 returns-then-n-max c =
     record {
-      value = read _ _ _ c.parse.ensures.value.0 (sym c.if-not-is-numeral.ensures) _ c.in-Ok.is c.if-n-max.true;
+      value = read _ _ _ c.parse.ensures.value.0 (sym c.if-not-is_numeral.ensures) _ c.in-Ok.is c.if-n-max.true;
       bound = c.if-n-max.true;
     }
 
 pub returns-else-n-max : goal.returns-else-n-max
 returns-else-n-max c =
     record {
-      value = too_large _ _ _ c.parse.ensures.value.0 (sym c.if-not-is-numeral.ensures) _ c.in-Ok.is c.if-n-max.false;
+      value = too_large _ _ _ c.parse.ensures.value.0 (sym c.if-not-is_numeral.ensures) _ c.in-Ok.is c.if-n-max.false;
       bound = tt;
     }
 
 pub returns-in-Err : goal.returns-in-Err
 returns-in-Err c =
     record {
-      value = far_too_large _ _ _ c.parse.ensures.value.0 (sym c.if-not-is-numeral.ensures) _ c.in-Err.is c.ranges.max.fits;
+      value = far_too_large _ _ _ c.parse.ensures.value.0 (sym c.if-not-is_numeral.ensures) _ c.in-Err.is c.ranges.max.fits;
       bound = tt;
     }

@@ -1,5 +1,5 @@
 -- Names: parts of the text.
-use Rattle.std.specs.Prelude.{◌≡◌, ℕ, ◌+◌, ◌<◌, ◌≤◌, List, [], ◌∷◌, length, take, drop, codes, ◌≢◌}
+use Rattle.std.specs.Prelude.{ℕ, ◌+◌, ◌<◌, ◌≤◌, List, [], ◌∷◌, length, take, drop, codes, ◌≢◌}
 use Rattle.std.specs.List.{slice_get}
 use Rattle.records.specs.declared.source.Name.{Name}
 

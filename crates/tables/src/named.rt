@@ -40,7 +40,7 @@ impl Named for Term {
 /// Whether no record before record `i` has its name.
 pub(crate) fn is_new<R: Named>(records: &[R], i: usize) -> bool
     requires { i < length records.now }
-    ensures { Decides result (New (map named records.now) i) }
+    ensures { Decides result (New (map R.named records.now) i) }
 {
     let name = records[i].name();
     for j in 0..i {

@@ -4,4 +4,4 @@ use Rattle.case.proofs.kinds.constructor_at.Goals as goal
 
 pub returns : goal.returns
 unfolding constructor_at
-returns c = c.find-constructor.ensures ∙ ap (look_up UnknownWord constructors) c.text-at.ensures
+returns c = c.find_constructor.ensures ∙ ap (look_up UnknownWord constructors) c.text_at.ensures

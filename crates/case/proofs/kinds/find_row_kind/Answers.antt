@@ -3,5 +3,5 @@ use Rattle.case.specs.Kinds.{UnknownWord, row_kinds}
 use Rattle.case.proofs.Tables.{missing}
 use Rattle.case.proofs.kinds.find_row_kind.Goals as goal
 
-pub returns-in-default : goal.returns-in-default
-returns-in-default c = missing UnknownWord row_kinds c.args.text.now (search rules)
+pub returns-in_default : goal.returns-in_default
+returns-in_default c = missing UnknownWord row_kinds c.args.text.now (search rules)

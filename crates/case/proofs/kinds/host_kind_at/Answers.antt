@@ -4,4 +4,4 @@ use Rattle.case.proofs.kinds.host_kind_at.Goals as goal
 
 pub returns : goal.returns
 unfolding host_kind_at
-returns c = c.find-host-kind.ensures ∙ ap (look_up UnknownWord host_kinds) c.text-at.ensures
+returns c = c.find_host_kind.ensures ∙ ap (look_up UnknownWord host_kinds) c.text_at.ensures

@@ -4,4 +4,4 @@ use Rattle.case.proofs.kinds.keyword_at.Goals as goal
 
 pub returns : goal.returns
 unfolding keyword_at
-returns c = c.find-keyword.ensures ∙ ap (look_up UnknownLine keywords) c.text-at.ensures
+returns c = c.find_keyword.ensures ∙ ap (look_up UnknownLine keywords) c.text_at.ensures

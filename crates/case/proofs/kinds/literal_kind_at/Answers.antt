@@ -4,4 +4,4 @@ use Rattle.case.proofs.kinds.literal_kind_at.Goals as goal
 
 pub returns : goal.returns
 unfolding literal_kind_at
-returns c = c.find-literal-kind.ensures ∙ ap (look_up UnknownWord literal_kinds) c.text-at.ensures
+returns c = c.find_literal_kind.ensures ∙ ap (look_up UnknownWord literal_kinds) c.text_at.ensures

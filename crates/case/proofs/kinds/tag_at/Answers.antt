@@ -4,4 +4,4 @@ use Rattle.case.proofs.kinds.tag_at.Goals as goal
 
 pub returns : goal.returns
 unfolding tag_at
-returns c = c.find-tag.ensures ∙ ap (look_up UnknownWord tags) c.text-at.ensures
+returns c = c.find_tag.ensures ∙ ap (look_up UnknownWord tags) c.text_at.ensures

@@ -7,6 +7,6 @@ pub returns-in-text : goal.returns-in-text
 unfolding flags
 returns-in-text c = search rules
 
-pub returns-in-default : goal.returns-in-default
+pub returns-in_default : goal.returns-in_default
 unfolding flags
-returns-in-default c = search (rules, other)
+returns-in_default c = search (rules, other)

@@ -4,4 +4,4 @@ use Rattle.case.proofs.kinds.term_tag_at.Goals as goal
 
 pub returns : goal.returns
 unfolding term_tag_at
-returns c = c.find-term-tag.ensures ∙ ap (look_up UnknownWord term_tags) c.text-at.ensures
+returns c = c.find_term_tag.ensures ∙ ap (look_up UnknownWord term_tags) c.text_at.ensures

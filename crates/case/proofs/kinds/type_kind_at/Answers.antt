@@ -4,4 +4,4 @@ use Rattle.case.proofs.kinds.type_kind_at.Goals as goal
 
 pub returns : goal.returns
 unfolding type_kind_at
-returns c = c.find-type-kind.ensures ∙ ap (look_up UnknownWord type_kinds) c.text-at.ensures
+returns c = c.find_type_kind.ensures ∙ ap (look_up UnknownWord type_kinds) c.text_at.ensures

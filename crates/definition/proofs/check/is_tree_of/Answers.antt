@@ -8,12 +8,12 @@ use Rattle.definition.proofs.check.is_tree_of.Goals as goal
 
 pub returns-then-eq : goal.returns-then-eq
 returns-then-eq c =
-    of_kind c.args.kind c.args.records.now c.in-Some.root.now c.in-Some.ensures.item.1 (sym c.kind-of.ensures ∙ c.if-eq.ensures) _ c.is-tree.ensures
+    of_kind c.args.kind c.args.records.now c.in-Some.root.now c.in-Some.ensures.item.1 (sym c.kind_of.ensures ∙ c.if-eq.ensures) _ c.is_tree.ensures
 
 pub returns-else-eq : goal.returns-else-eq
 returns-else-eq c =
     Decides-at _ _ c.if-eq.false
-    (refuted (other_kind c.args.kind c.args.records.now c.in-Some.root.now c.in-Some.ensures.item.1 (λ e. c.if-eq.ensures (c.kind-of.ensures ∙ e))))
+    (refuted (other_kind c.args.kind c.args.records.now c.in-Some.root.now c.in-Some.ensures.item.1 (λ e. c.if-eq.ensures (c.kind_of.ensures ∙ e))))
 
 pub returns-in-None : goal.returns-in-None
 returns-in-None c =

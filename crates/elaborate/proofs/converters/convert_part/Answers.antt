@@ -6,12 +6,12 @@ use Rattle.elaborate.specs.Converters.{Converts, unlawful, lawful}
 use Rattle.elaborate.proofs.Keeping.{converts_keeps, kept}
 use Rattle.elaborate.proofs.converters.convert_part.Goals as goal
 
-pub returns-in-err-definition : goal.returns-in-err-definition
-returns-in-err-definition c =
+pub returns-in_err-definition : goal.returns-in_err-definition
+returns-in_err-definition c =
     let v = view c.args.tables.now in
-    let (i, e, bad) = rw c.as-slice.ensures at c.in-err-definition.ensures in
-    let m : Converts c.args.part v (told v c.from-residual.result) =
-    unlawful i bad (fails c.from-residual.result c.from-residual.ensures.1 (ap (refused v) e)) in
+    let (i, e, bad) = rw c.as_slice.ensures at c.in_err-definition.ensures in
+    let m : Converts c.args.part v (told v c.from_residual.result) =
+    unlawful i bad (fails c.from_residual.result c.from_residual.ensures.1 (ap (refused v) e)) in
     let k = kept v v _ (converts_keeps _ _ _ m) in
     record { meaning = m; unchanged = k.0; env = k.1 }
 
@@ -20,6 +20,6 @@ returns c =
     let v = view c.args.tables.now in
     let w = view c.convert.new.tables in
     let m : Converts c.args.part v (told w c.convert.result) =
-    lawful c.in-ok-definition.definition (rw c.as-slice.ensures at c.in-ok-definition.ensures) c.convert.ensures in
+    lawful c.in_ok-definition.definition (rw c.as_slice.ensures at c.in_ok-definition.ensures) c.convert.ensures in
     let k = kept v w _ (converts_keeps _ _ _ m) in
     record { meaning = m; unchanged = k.0; env = k.1 }

@@ -2,5 +2,5 @@ use Rattle.std.proofs.Common.{arith}
 use Rattle.lookup.proofs.Searches.{below_max}
 use Rattle.lookup.proofs.names.symbol.Goals as goal
 
-pub overflow-cast-result : goal.overflow-cast-result
-overflow-cast-result c = omega (arith, below_max _ c.args.tables.now.symbols _ _ c.as-slice.ensures c.in-ok-i.ensures)
+pub overflow_cast-result : goal.overflow_cast-result
+overflow_cast-result c = omega (arith, below_max _ c.args.tables.now.symbols _ _ c.as_slice.ensures c.in_ok-i.ensures)

@@ -8,13 +8,13 @@ use Rattle.tables.specs.View.{env, view}
 use Rattle.tree.proofs.Walks.{refuted}
 use Rattle.tables.proofs.Tables.are_types.Goals as goal
 
-pub returns-then-not-is-type : goal.returns-then-not-is-type
-returns-then-not-is-type c =
-    refuted (λ all. both_ways _ c.if-not-is-type.true (c.is-type.ensures.1 (All-get_or (IsType (env (view c.args.self.now))) c.args.types.now _ _ (omega arith) all)))
+pub returns-then-not-is_type : goal.returns-then-not-is_type
+returns-then-not-is_type c =
+    refuted (λ all. both_ways _ c.if-not-is_type.true (c.is_type.ensures.1 (All-get_or (IsType (env (view c.args.self.now))) c.args.types.now _ _ (omega arith) all)))
 
 pub loop-ty-preserved : goal.loop-ty-preserved
 loop-ty-preserved c =
-    All-more (IsType (env (view c.args.self.now))) c.args.types.now _ _ (omega arith) c.loop-ty.invariant (c.if-not-is-type.ensures.0 refl)
+    All-more (IsType (env (view c.args.self.now))) c.args.types.now _ _ (omega arith) c.loop-ty.invariant (c.if-not-is_type.ensures.0 refl)
 
 pub returns : goal.returns
 returns c =

@@ -24,7 +24,7 @@ loop-table-preserved c t h =
     let index = c.loop-table.table-index in
     ⊎_elim (λ l. c.loop-table.invariant t l)
     (λ ge. let here : table_number t ≡ index = omega arith in
-    subst (λ s. (j : ℕ) → Keeps e s j) (ap (λ k. get_or all k Text) (sym here) ∙ at_number t) c.in-default.ensures)
+    subst (λ s. (j : ℕ) → Keeps e s j) (ap (λ k. get_or all k Text) (sym here) ∙ at_number t) c.in_default.ensures)
     (cases_lt (table_number t) index)
 
 pub returns : goal.returns

@@ -14,5 +14,5 @@ returns-then-start-end c =
     let some = (tree_size (template_rules c.args.arity) (slice xs p) t.1).0 in
     ⊎_elim
     (λ none. omega (arith, some, none, length-take (p.end - p.start) (drop p.start xs)))
-    (λ past. omega (arith, t.0, past, ap length c.as-slice-source.ensures))
+    (λ past. omega (arith, t.0, past, ap length c.as_slice-source.ensures))
     c.then-start-end.either)

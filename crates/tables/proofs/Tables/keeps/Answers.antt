@@ -3,5 +3,5 @@ use Rattle.tables.specs.Lawful.{Keeps}
 use Rattle.tables.specs.View.{env, view}
 use Rattle.tables.proofs.Tables.keeps.Goals as goal
 
-pub symbol-keeps-requires : goal.symbol-keeps-requires
-symbol-keeps-requires c j h = subst (λ t. Keeps (env (view c.args.self.now)) t j) c.in-Symbols.is (c.requires j h)
+pub symbol_keeps-requires : goal.symbol_keeps-requires
+symbol_keeps-requires c j h = subst (λ t. Keeps (env (view c.args.self.now)) t j) c.in-Symbols.is (c.requires j h)

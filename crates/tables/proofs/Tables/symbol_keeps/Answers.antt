@@ -4,8 +4,8 @@ use Rattle.tables.specs.View.{env, view}
 use Rattle.tables.proofs.Places.{here_needed, nowhere_needed, taken}
 use Rattle.tables.proofs.Tables.symbol_keeps.Goals as goal
 
-pub is-good-symbol-requires : goal.is-good-symbol-requires
-is-good-symbol-requires c =
+pub is_good_symbol-requires : goal.is_good_symbol-requires
+is_good_symbol-requires c =
     let e = env (view c.args.self.now) in
     record {
       within = taken e.symbols c.args.i _ c.in-Some.ensures;
@@ -14,7 +14,7 @@ is-good-symbol-requires c =
     }
 
 pub returns-in-Some : goal.returns-in-Some
-returns-in-Some c = let e = env (view c.args.self.now) in here_needed e.symbols c.args.i (SymbolGood e c.args.i) 13 _ c.in-Some.ensures _ c.is-good-symbol.ensures
+returns-in-Some c = let e = env (view c.args.self.now) in here_needed e.symbols c.args.i (SymbolGood e c.args.i) 13 _ c.in-Some.ensures _ c.is_good_symbol.ensures
 
 pub returns-in-None : goal.returns-in-None
 returns-in-None c = let e = env (view c.args.self.now) in nowhere_needed e.symbols c.args.i (SymbolGood e c.args.i) 13 c.in-None.ensures

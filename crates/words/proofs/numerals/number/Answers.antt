@@ -2,8 +2,8 @@ use Rattle.std.proofs.Common.{sym}
 use Rattle.words.proofs.Values.{not_numeral, read, too_large, far_too_large}
 use Rattle.words.proofs.numerals.number.Goals as goal
 
-pub returns-then-not-is-numeral : goal.returns-then-not-is-numeral
-returns-then-not-is-numeral c = record { value = not_numeral _ _ (sym c.if-not-is-numeral.ensures); bound = tt }
+pub returns-then-not-is_numeral : goal.returns-then-not-is_numeral
+returns-then-not-is_numeral c = record { value = not_numeral _ _ (sym c.if-not-is_numeral.ensures); bound = tt }
 
 pub returns-then-n-max : goal.returns-then-n-max
 returns-then-n-max c =

@@ -1,5 +1,5 @@
 -- The lines of the environment, of hosts and of calls, word by word. Word 0 is the one that a line begins with.
-use Rattle.std.specs.Prelude.{ℕ, Bool, cond, ◌&&◌, List, Ok, Err, Result}
+use Rattle.std.specs.Prelude.{ℕ, cond, ◌&&◌, List, Ok, Err, Result}
 use Rattle.records.specs.declared.env.TermKind.{TermKind}
 use Rattle.records.specs.declared.env.TermKind.TheVariants as term
 use Rattle.records.specs.declared.env.TermFlags.{TermFlags}

@@ -1,4 +1,4 @@
-use Rattle.std.proofs.Common.{◌≡◌, ◌-◌}
+use Rattle.std.proofs.Common.{◌≡◌}
 use Rattle.case.specs.Fields.{numbers}
 use Rattle.case.proofs.fields.check_numbers.Given as goal
 

@@ -3,9 +3,9 @@ use Rattle.case.specs.Kinds.{extractor}
 use Rattle.case.proofs.Tables.{other}
 use Rattle.case.proofs.kinds.extractor_kind.Goals as goal
 
-pub returns-in_err-template : goal.returns-in_err-template
+pub returns-in_err-template-in_default : goal.returns-in_err-template-in_default
 unfolding extractor
-returns-in_err-template c = search (rules, other)
+returns-in_err-template-in_default c = search (rules, other)
 
 pub returns-in-text : goal.returns-in-text
 unfolding extractor
@@ -15,6 +15,6 @@ pub returns-in-ext : goal.returns-in-ext
 unfolding extractor
 returns-in-ext c = search rules
 
-pub returns-in_ok-template : goal.returns-in_ok-template
+pub returns-in_ok-template-in_default : goal.returns-in_ok-template-in_default
 unfolding extractor
-returns-in_ok-template c = search (rules, other)
+returns-in_ok-template-in_default c = search (rules, other)

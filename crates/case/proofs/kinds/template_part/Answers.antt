@@ -7,21 +7,21 @@ pub returns-in_err-word : goal.returns-in_err-word
 unfolding template
 returns-in_err-word c = search rules
 
-pub returns-in_err-start : goal.returns-in_err-start
+pub returns-in_err-start-in-tmpl : goal.returns-in_err-start-in-tmpl
 unfolding template
-returns-in_err-start c = search rules
+returns-in_err-start-in-tmpl c = search rules
 
-pub returns-in_err-start-2 : goal.returns-in_err-start-2
+pub returns-in_err-start-in-tmpl-2 : goal.returns-in_err-start-in-tmpl-2
 unfolding template
-returns-in_err-start-2 c = search rules
+returns-in_err-start-in-tmpl-2 c = search rules
 
-pub returns-in_err-end : goal.returns-in_err-end
+pub returns-in_err-end-in-tmpl : goal.returns-in_err-end-in-tmpl
 unfolding template
-returns-in_err-end c = search rules
+returns-in_err-end-in-tmpl c = search rules
 
-pub returns-in_ok-end : goal.returns-in_ok-end
+pub returns-in_ok-end-in-tmpl : goal.returns-in_ok-end-in-tmpl
 unfolding template
-returns-in_ok-end c = search rules
+returns-in_ok-end-in-tmpl c = search rules
 
 pub returns-in_default : goal.returns-in_default
 unfolding template

@@ -7,7 +7,7 @@ use Rattle.records.specs.declared.source.Pos.{Pos}
 use Rattle.records.specs.declared.source.Source.{Source}
 use Rattle.tree.specs.Layout.{Forest, none, next, flat, Rules, Below, Lawful}
 use Rattle.definition.specs.Converters.{ident_record, converter_records}
-use Rattle.definition.specs.Grammar.{kind_of, counts, place, same_kind, definition_rules}
+use Rattle.definition.specs.Grammar.{kind_of, place, same_kind, definition_rules}
 use Rattle.definition.specs.Lawful.{IsTreeOf}
 use Rattle.definition.specs.declared.converter.Converter.{Converter}
 use Rattle.definition.specs.declared.converter.Ident.{Ident}

@@ -15,7 +15,7 @@ pub(crate) trait Test {
 
 /// The number of the first item that passes the test.
 pub(crate) fn position<T: Test>(test: &T, items: &[T::Item]) -> Option<usize>
-    ensures { result ≡ first (passes test.now) items.now }
+    ensures { result ≡ first (T.passes test.now) items.now }
 {
     for i in 0..items.len() {
         if test.test(&items[i]) {
@@ -27,7 +27,7 @@ pub(crate) fn position<T: Test>(test: &T, items: &[T::Item]) -> Option<usize>
 
 /// The first item that passes the test.
 pub(crate) fn find<'a, T: Test>(test: &T, items: &'a [T::Item]) -> Option<&'a T::Item>
-    ensures { option_map (λ x. x.now) result ≡ find (passes test.now) items.now }
+    ensures { option_map (λ x. x.now) result ≡ find (T.passes test.now) items.now }
 {
     let i = position(test, items)?;
     Some(&items[i])

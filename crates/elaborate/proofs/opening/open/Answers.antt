@@ -5,4 +5,4 @@ use Rattle.elaborate.proofs.opening.open.Goals as goal
 
 -- what is taken back is no part of the environment
 pub invariant_of-result : goal.invariant_of-result
-invariant_of-result c = (∣◌∣₁ (subst (λ v. Lawful (env v)) (sym c.clear_results.ensures) c.in-Ok.ensures), tt)
+invariant_of-result c = record { lawful = ∣◌∣₁ (subst (λ v. Lawful (env v)) (sym c.clear_results.ensures) c.in-Ok.ensures) }

@@ -4,4 +4,4 @@ use Rattle.elaborate.proofs.stages.Opening.converter.Goals as goal
 
 -- the call leaves the environment as it was
 pub invariant_of-self : goal.invariant_of-self
-invariant_of-self c = (subst (λ e. ∥ Lawful e ∥₁) (sym c.convert_part.ensures.env) c.args.self.now.lawful, tt)
+invariant_of-self c = record { lawful = subst (λ e. ∥ Lawful e ∥₁) (sym c.convert_part.ensures.env) c.args.self.now.lawful }

@@ -78,9 +78,8 @@ fn dump_values(lines: &mut Lines, tables: &Tables, cause: Cause) -> Result<(), A
     match cause {
         Cause::DuplicateConverter { inner, outer } => two_names(lines, tables, inner, outer),
         Cause::LetUnknownType { ty, var } => two_names(lines, tables, ty, var),
-        Cause::PatternIntType { ty, val } | Cause::ExprIntType { ty, val } => {
-            type_and_value(lines, ty, val)
-        }
+        Cause::PatternIntType { ty, val } => type_and_value(lines, ty, val),
+        Cause::ExprIntType { ty, val } => type_and_value(lines, ty, val),
         Cause::PatternBoolType { val, ty } | Cause::ExprBoolType { val, ty } => {
             flag_and_type(lines, val, ty)
         }

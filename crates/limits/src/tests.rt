@@ -88,7 +88,7 @@ fn a_table_exactly_full_and_one_over(rt: HostRuntime) -> Result<(), Fail> {
     assert!(rt; table.extend_from_slice(&[6, 7, 8]).is_err());
     assert!(rt; table.extend_from_slice(&[6, 7]).is_ok());
     assert!(rt; table.push(8).is_err());
-    assert_eq!(rt; table.as_slice(), &[5, 6, 7]);
+    assert_eq!(rt; table.as_slice(), [5, 6, 7].as_slice());
     Ok(())
 }
 

@@ -1,6 +1,6 @@
 -- Which tables are lawful: what each record has to keep, and which record is named where one does not.
 use Rattle.std.specs.Prelude.{◌≡◌, ℕ, zero, suc, ◌-◌, ◌<◌, ◌≤◌, List, [], ◌∷◌, map, length, take, drop, Some, None, vec_items, Option, slice_index_or}
-use Rattle.std.specs.List.{AllByRecursion as All, slice_get}
+use Rattle.std.specs.List.{AllByRecursion, slice_get}
 use Rattle.tree.specs.Layout.{IsTree}
 use Rattle.records.specs.Numbers.{table_number}
 use Rattle.records.specs.declared.env.Constant.{Constant}
@@ -117,13 +117,13 @@ module _ (e : Env) where
   pub record TermGood (i : ℕ) (t : Term) : Type 0 where
     pub named : IsSymbol t.name
     pub few : length (vec_items t.arg_tys) ≤ 16
-    pub args : All IsType (vec_items t.arg_tys)
+    pub args : AllByRecursion IsType (vec_items t.arg_tys)
     pub ret : IsType t.ret_ty
     pub new : New (map (λ t. t.name) e.terms) i
     pub template : TemplateGood (length (vec_items t.arg_tys)) (template_of t.kind)
 
   abbrev pub SourceGood : Source → Type 0
-  SourceGood s = All (Inside e.text) (node_names s.node)
+  SourceGood s = AllByRecursion (Inside e.text) (node_names s.node)
 
   pub record SymbolGood (i : ℕ) (s : Symbol) : Type 0 where
     pub inside : Inside e.text s.name

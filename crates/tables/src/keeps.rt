@@ -1,6 +1,6 @@
 // Whether one record of a table keeps the rules.
 ghost use Rattle.std.specs.Prelude.{◌≡◌, ℕ, ◌+◌, ◌<◌, [], map, length, Some, Decides, slice_index_or};
-ghost use Rattle.std.specs.List.{AllByRecursion as All, slice_get};
+ghost use Rattle.std.specs.List.{AllByRecursion, slice_get};
 ghost use Rattle.tables.specs.Lawful.{IsSymbol, IsType, TypeGood, ConstantGood, TemplateGood, TermGood, SourceGood, SymbolGood, IfAt, builtin_type, template_of, pattern_names, expr_names};
 ghost use Rattle.tables.specs.Names.{Inside, New, bytes, builtin_names};
 ghost use Rattle.tables.specs.View.{env, view};
@@ -75,7 +75,7 @@ impl Tables {
     }
 
     fn are_types(&self, types: &[TypeId]) -> bool
-        ensures { Decides result (All (IsType (env (view self.now))) types.now) }
+        ensures { Decides result (AllByRecursion (IsType (env (view self.now))) types.now) }
     {
         for ty in types {
             if !self.is_type(*ty) {
@@ -147,7 +147,7 @@ impl Tables {
 
 /// Whether the name that the pattern's record holds, if any, lies in the text.
 fn are_pattern_names(text: &[u8], pattern: Pattern) -> bool
-    ensures { Decides result (All (Inside text.now) (pattern_names pattern)) }
+    ensures { Decides result (AllByRecursion (Inside text.now) (pattern_names pattern)) }
 {
     match pattern {
         Pattern::Var { var } | Pattern::BindPattern { var } => is_inside(text, var),
@@ -163,7 +163,7 @@ fn are_pattern_names(text: &[u8], pattern: Pattern) -> bool
 
 /// Whether the name that the expression's record holds, if any, lies in the text.
 fn are_expr_names(text: &[u8], expr: Expr) -> bool
-    ensures { Decides result (All (Inside text.now) (expr_names expr)) }
+    ensures { Decides result (AllByRecursion (Inside text.now) (expr_names expr)) }
 {
     match expr {
         Expr::Term { sym } => is_inside(text, sym),

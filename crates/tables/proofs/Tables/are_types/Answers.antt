@@ -2,7 +2,7 @@ use Rattle.std.proofs.Common.{refl, subst, arith}
 use Rattle.std.proofs.ByRecursion.{All-get_or, All-more}
 use Rattle.std.proofs.lemmas.List.{take_all}
 use Rattle.std.proofs.lemmas.Bool.{both_ways}
-use Rattle.std.specs.List.{AllByRecursion as All}
+use Rattle.std.specs.List.{AllByRecursion}
 use Rattle.tables.specs.Lawful.{IsType}
 use Rattle.tables.specs.View.{env, view}
 use Rattle.tree.proofs.Walks.{refuted}
@@ -18,4 +18,4 @@ loop-ty-preserved c =
 
 pub returns : goal.returns
 returns c =
-    ((λ _. subst (All (IsType (env (view c.args.self.now)))) (take_all _ c.args.types.now (omega arith)) c.loop-ty.invariant), (λ _. refl))
+    ((λ _. subst (AllByRecursion (IsType (env (view c.args.self.now)))) (take_all _ c.args.types.now (omega arith)) c.loop-ty.invariant), (λ _. refl))

@@ -14,10 +14,11 @@ mod trees;
 use output::Output;
 use std::io;
 use std::io::Read;
+use std::process::ExitCode;
 use stop::Stop;
 
 /// Why the program ends with status 1.
-#[derive(Debug, Drop)]
+#[derive(Drop)]
 struct Failed;
 
 impl From<io::Error> for Failed {
@@ -33,7 +34,7 @@ fn complain(rt: &HostRuntime, line: usize, stop: Stop) -> Result<(), Failed> {
     Err(Failed)
 }
 
-fn main(rt: HostRuntime) -> Result<(), Failed> {
+fn run(rt: &HostRuntime) -> Result<(), Failed> {
     let heap = rt.alloc();
     let mut file = Vec::new(heap);
     rt.stdin().read_to_end(&mut file)?;
@@ -43,6 +44,14 @@ fn main(rt: HostRuntime) -> Result<(), Failed> {
     rt.stdout().write_all(output.bytes())?;
     match read {
         Ok(()) => Ok(()),
-        Err(stop) => complain(&rt, line, stop),
+        Err(stop) => complain(rt, line, stop),
+    }
+}
+
+/// An exit code, and no error: what is wrong with a line is all that stands on standard error.
+fn main(rt: HostRuntime) -> ExitCode {
+    match run(&rt) {
+        Ok(()) => ExitCode::SUCCESS,
+        Err(_) => ExitCode::FAILURE,
     }
 }

@@ -5,36 +5,43 @@ use records::ids::{Sym, TypeId};
 use records::refusal::Values;
 use records::source::{Name, Node, Part, Pattern, Pos, Source};
 use std::alloc::Global;
-use std::process::Abort;
 use std::test::Fail;
 use table::Table;
 use tables::{Limits, Tables};
 
 const NOWHERE: Pos = Pos { file: 0, offset: 0 };
 
+/// What the tables of a test need to hold it. A helper answers, and the test fails: so no helper may abort.
+fn check(holds: bool) -> Result<(), Fail> {
+    if holds {
+        Ok(())
+    } else {
+        Err(Fail::new("a table has no place for what the test adds"))
+    }
+}
+
 /// The built-in environment, with room for all that an elaboration may hold.
-fn environment(rt: &impl Abort, heap: Global) -> Result<Tables, Fail> {
+fn environment(heap: Global) -> Result<Tables, Fail> {
     let mut tables = Tables::new(heap, &Limits::MAX, true)?;
-    assert!(rt; tables.add_builtins().is_ok());
+    check(tables.add_builtins().is_ok())?;
     Ok(tables)
 }
 
-fn add_symbol(rt: &impl Abort, tables: &mut Tables, bytes: &[u8]) -> Result<(), Fail> {
+fn add_symbol(tables: &mut Tables, bytes: &[u8]) -> Result<(), Fail> {
     let Ok(name) = tables.add_name(bytes) else {
         return Err(Fail::new("the text is full"));
     };
-    assert!(rt; tables.add_symbol(Symbol { name }).is_ok());
-    Ok(())
+    check(tables.add_symbol(Symbol { name }).is_ok())
 }
 
-fn add_pattern(rt: &impl Abort, tables: &mut Tables, pattern: Pattern, size: u16) {
+fn add_pattern(tables: &mut Tables, pattern: Pattern, size: u16) -> Result<(), Fail> {
     let node = Node::Pattern(pattern);
     let pos = NOWHERE;
-    assert!(rt; tables.source.push(Source { node, size, pos }).is_ok());
+    check(tables.source.push(Source { node, size, pos }).is_ok())
 }
 
 /// A term named by symbol 13 whose template is the whole source list.
-fn add_template_term(rt: &impl Abort, heap: Global, tables: &mut Tables) {
+fn add_template_term(heap: Global, tables: &mut Tables) -> Result<(), Fail> {
     let template = Part {
         start: 0,
         end: 65_535,
@@ -55,7 +62,7 @@ fn add_template_term(rt: &impl Abort, heap: Global, tables: &mut Tables) {
             extractor_kind: Some(ExtractorKind::Internal { template }),
         },
     };
-    assert!(rt; tables.terms.push(term).is_ok());
+    check(tables.terms.push(term).is_ok())
 }
 
 /// The table and the record that opening is refused with, if it is.
@@ -71,11 +78,11 @@ fn refused(tables: Tables) -> Option<(usize, usize)> {
 
 #[test]
 fn names_of_255_and_256_bytes(rt: HostRuntime) -> Result<(), Fail> {
-    let mut tables = environment(&rt, rt.alloc())?;
-    add_symbol(&rt, &mut tables, &[b'x'; 255])?;
+    let mut tables = environment(rt.alloc())?;
+    add_symbol(&mut tables, &[b'x'; 255])?;
     assert_eq!(rt; refused(tables), None);
-    let mut tables = environment(&rt, rt.alloc())?;
-    add_symbol(&rt, &mut tables, &[b'x'; 256])?;
+    let mut tables = environment(rt.alloc())?;
+    add_symbol(&mut tables, &[b'x'; 256])?;
     assert_eq!(rt; refused(tables), Some((9, 13)));
     Ok(())
 }
@@ -94,11 +101,11 @@ fn a_table_exactly_full_and_one_over(rt: HostRuntime) -> Result<(), Fail> {
 
 #[test]
 fn a_refusal_leaves_what_opening_empties(rt: HostRuntime) -> Result<(), Fail> {
-    let mut tables = environment(&rt, rt.alloc())?;
+    let mut tables = environment(rt.alloc())?;
     let cause = Cause::RootNotTerm;
     let pos = NOWHERE;
     assert!(rt; tables.faults.push(Fault { cause, pos }).is_ok());
-    add_symbol(&rt, &mut tables, b"")?;
+    add_symbol(&mut tables, b"")?;
     let Err((mut tables, _refusal)) = open(tables) else {
         return Err(Fail::new("a name of 0 bytes passed"));
     };
@@ -115,14 +122,14 @@ fn a_refusal_leaves_what_opening_empties(rt: HostRuntime) -> Result<(), Fail> {
 /// 65,535 patterns, each in the next: no call goes as deep as the tree.
 #[test]
 fn the_deepest_template(rt: HostRuntime) -> Result<(), Fail> {
-    let mut tables = environment(&rt, rt.alloc())?;
-    add_symbol(&rt, &mut tables, b"deep")?;
+    let mut tables = environment(rt.alloc())?;
+    add_symbol(&mut tables, b"deep")?;
     let var = Name { start: 0, len: 4 };
-    add_pattern(&rt, &mut tables, Pattern::Wildcard, 1);
+    add_pattern(&mut tables, Pattern::Wildcard, 1)?;
     for size in 2..=65_535u16 {
-        add_pattern(&rt, &mut tables, Pattern::BindPattern { var }, size);
+        add_pattern(&mut tables, Pattern::BindPattern { var }, size)?;
     }
-    add_template_term(&rt, rt.alloc(), &mut tables);
+    add_template_term(rt.alloc(), &mut tables)?;
     assert_eq!(rt; refused(tables), None);
     Ok(())
 }
@@ -130,13 +137,13 @@ fn the_deepest_template(rt: HostRuntime) -> Result<(), Fail> {
 /// 65,534 patterns side by side in one.
 #[test]
 fn the_widest_template(rt: HostRuntime) -> Result<(), Fail> {
-    let mut tables = environment(&rt, rt.alloc())?;
-    add_symbol(&rt, &mut tables, b"wide")?;
+    let mut tables = environment(rt.alloc())?;
+    add_symbol(&mut tables, b"wide")?;
     for _ in 0..65_534u16 {
-        add_pattern(&rt, &mut tables, Pattern::Wildcard, 1);
+        add_pattern(&mut tables, Pattern::Wildcard, 1)?;
     }
-    add_pattern(&rt, &mut tables, Pattern::And, 65_535);
-    add_template_term(&rt, rt.alloc(), &mut tables);
+    add_pattern(&mut tables, Pattern::And, 65_535)?;
+    add_template_term(rt.alloc(), &mut tables)?;
     assert_eq!(rt; refused(tables), None);
     Ok(())
 }

@@ -55,7 +55,7 @@ module _ {N : Type 0} (R : Rules N) where
   unique none none lf lg e = refl
   unique none (next g s h) lf lg e = absurd (omega (arith, ap length e, length_next g s h))
   unique (next f r k) none lf lg e = absurd (omega (arith, ap length e, length_next f r k))
-  unique (next f r k) (next g s h) (lf, lk, size-r, _) (lg, lh, size-s, _) e =
+  unique (next f r k) (next g s h) (lf, lk, size_r, _) (lg, lh, size_s, _) e =
       let p = same_from_push (flat f ++ flat k) (flat g ++ flat h) r s (sym (flat_next f r k) ∙ e ∙ flat_next g s h) in
       let same : R.size r ≡ R.size s = ap R.size p.1 in
       let long : length (flat f) ≡ length (flat g) =

@@ -110,18 +110,18 @@ module _ {N : Type 0} (R : Rules N) where
       let at : length (take end xs) - 1 ≡ end - 1 = omega (arith, tall) in
       let child : s ≡ c =
       sym (last_root (take end xs) a s d e c) ∙ ap (λ n. get_or (take end xs) n c) at ∙ get_or-take end xs (end - 1) c (omega arith) ∙ is in
-      let size-c : R.size c ≡ length (flat d) + 1 = subst (λ x. R.size x ≡ length (flat d) + 1) child size in
+      let size_c : R.size c ≡ length (flat d) + 1 = subst (λ x. R.size x ≡ length (flat d) + 1) child size in
       let long = length_next a s d in
       let all : length (flat (next a s d)) ≡ end = sym (ap length e) ∙ tall in
-      let rest : length (flat a) ≡ end - R.size c = omega (arith, long, all, size-c) in
+      let rest : length (flat a) ≡ end - R.size c = omega (arith, long, all, size_c) in
       let less : end - R.size c ≤ end = omega arith in (
         a,
         d,
         ap (λ x. next a x d) child,
         la,
         sym (take-take (end - R.size c) end xs less) ∙ ap (take (end - R.size c)) e ∙ take_at (flat a) _ (end - R.size c) rest,
-        omega (arith, size-c),
-        omega (arith, size-c, long, all),
+        omega (arith, size_c),
+        omega (arith, size_c, long, all),
       )
 
 -- Where a walk back from r has come: trees lie before `end`, and whether the last of them fill the `left` records

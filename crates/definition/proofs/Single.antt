@@ -1,6 +1,6 @@
 -- A part of the source list is one definition at most, or has one first bad record.
 use Rattle.std.proofs.Common.{◌≡◌, ℕ, ◌+◌, ◌-◌, ◌<◌, ◌≤◌, List, length, get_or, take, drop, sym, refl, ap, subst, ⊎_elim, arith}
-use Rattle.std.proofs.lemmas.List.{take-take, length-take, length-take-le}
+use Rattle.std.proofs.lemmas.List.{take-take, length-take}
 use Rattle.std.proofs.lemmas.Bool.{cases_lt}
 use Rattle.records.specs.Parts.{slice}
 use Rattle.records.specs.declared.source.Name.{Name}
@@ -9,7 +9,7 @@ use Rattle.records.specs.declared.source.Node.TheVariants as node
 use Rattle.records.specs.declared.source.Part.{Part}
 use Rattle.records.specs.declared.source.Source.{Source}
 use Rattle.tree.specs.Layout.{none, next, IsForest, IsTree}
-use Rattle.tree.proofs.Forests.{front, tree_front, tree_size}
+use Rattle.tree.proofs.Forests.{forest_front, tree_front, tree_size}
 use Rattle.definition.specs.Converters.{ident_record, converter_records, WritesConverter}
 use Rattle.definition.specs.Grammar.{definition_rules}
 use Rattle.definition.specs.Lawful.{IsTreeOf, IsDefinition, FirstBad, empty, broken, missing, unwanted}
@@ -17,9 +17,6 @@ use Rattle.definition.specs.declared.converter.Converter.{Converter}
 use Rattle.definition.specs.declared.converter.Ident.{Ident}
 use Rattle.definition.specs.declared.grammar.Kind.{Kind}
 use Rattle.definition.specs.declared.grammar.Kind.TheVariants as kind
-
-forest_front : (xs : List Source) → IsForest definition_rules xs → (n : ℕ) → n ≤ length xs → IsForest definition_rules (take n xs)
-forest_front xs (f, e, l) n h = rw e (front definition_rules f l n (rw e at h))
 
 module _ (k : Kind) (source : List Source) (p : Part) where
   is_tree : IsTreeOf k (slice source p) → IsTree definition_rules (slice source p)
@@ -32,11 +29,11 @@ module _ (k : Kind) (source : List Source) (p : Part) where
   earlier : (n m : ℕ) → n < m → m ≤ length (slice source p) → IsForest definition_rules (take m (slice source p)) → IsForest definition_rules (take (n + 1) (slice source p))
   earlier n m l within f =
       subst (IsForest definition_rules) (take-take (n + 1) m (slice source p) (omega arith))
-      (forest_front (take m (slice source p)) f (n + 1) (omega (arith, length-take-le m (slice source p) within)))
+      (forest_front definition_rules (take m (slice source p)) f (n + 1))
 
   pub lawful_has_none : IsDefinition k source p → (i : ℕ) → FirstBad k source p i → ⊥
   lawful_has_none (within, tree) i (empty e z) = omega (arith, none_there e, (tree_size definition_rules (slice source p) (is_tree tree)).0)
-  lawful_has_none (within, tree) i (broken n e l before bad) = bad (tree_front definition_rules (slice source p) (is_tree tree) (n + 1) (omega arith))
+  lawful_has_none (within, tree) i (broken n e l before bad) = bad (tree_front definition_rules (slice source p) (is_tree tree) (n + 1))
   lawful_has_none (within, tree) i (missing s past f e) = omega arith
   lawful_has_none (within, tree) i (unwanted s w f other e) = other tree
 
@@ -51,14 +48,14 @@ module _ (k : Kind) (source : List Source) (p : Part) where
       (λ less. absurd (bad (earlier n m less (omega arith) before')))
       (λ le. ⊎_elim (λ less. absurd (bad' (earlier m n less (omega arith) before))) (λ ge. omega arith) (cases_lt m n))
       (cases_lt n m)
-  one_bad i j (broken n e l before bad) (missing s past f e') = absurd (bad (forest_front (slice source p) f (n + 1) (omega arith)))
-  one_bad i j (broken n e l before bad) (unwanted s w f other e') = absurd (bad (forest_front (slice source p) f (n + 1) (omega arith)))
+  one_bad i j (broken n e l before bad) (missing s past f e') = absurd (bad (forest_front definition_rules (slice source p) f (n + 1)))
+  one_bad i j (broken n e l before bad) (unwanted s w f other e') = absurd (bad (forest_front definition_rules (slice source p) f (n + 1)))
   one_bad i j (missing s past f e) (empty a b) = absurd (omega arith)
-  one_bad i j (missing s past f e) (broken m e' l before bad) = absurd (bad (forest_front (slice source p) f (m + 1) (omega arith)))
+  one_bad i j (missing s past f e) (broken m e' l before bad) = absurd (bad (forest_front definition_rules (slice source p) f (m + 1)))
   one_bad i j (missing s past f e) (missing s' past' f' e') = omega arith
   one_bad i j (missing s past f e) (unwanted s' w f' other e') = absurd (omega arith)
   one_bad i j (unwanted s w f other e) (empty a b) = absurd (omega arith)
-  one_bad i j (unwanted s w f other e) (broken m e' l before bad) = absurd (bad (forest_front (slice source p) f (m + 1) (omega arith)))
+  one_bad i j (unwanted s w f other e) (broken m e' l before bad) = absurd (bad (forest_front definition_rules (slice source p) f (m + 1)))
   one_bad i j (unwanted s w f other e) (missing s' past f' e') = absurd (omega arith)
   one_bad i j (unwanted s w f other e) (unwanted s' w' f' other' e') = omega arith
 

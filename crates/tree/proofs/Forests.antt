@@ -26,6 +26,13 @@ module _ {N : Type 0} where
       let same = e ∙ flat_next f r g in
       ap (λ ys. get_or ys (length xs - 1) d) same ∙ get_or_push (flat f ++ flat g) r d (length xs - 1) (omega (arith, ap length same, length_push (flat f ++ flat g) r))
 
+  -- a forest whose last record is r has a last tree with that root
+  pub last_tree : (f : Forest N) (xs : List N) (r : N) → flat f ≡ xs ++ r ∷ [] → (a : Forest N) × (b : Forest N) × (f ≡ next a r b)
+  last_tree none xs r e = absurd (omega (arith, ap length e, length_push xs r))
+  last_tree (next a s b) xs r e =
+      let (rest, root) = same_from_push (flat a ++ flat b) xs s r (sym (flat_next a s b) ∙ e) in
+      (a, b, ap (λ x. next a x b) root)
+
   none_from_length : (f : Forest N) → length (flat f) ≡ 0 → f ≡ none
   none_from_length none e = refl
   none_from_length (next f r g) e = absurd (omega (arith, length_next f r g))
@@ -70,7 +77,7 @@ module _ {N : Type 0} (R : Rules N) where
   forest_front xs (f, e, l) n = rw e (front f l n)
 
   pub tree_front : (xs : List N) → IsTree R xs → (n : ℕ) → IsForest R (take n xs)
-  tree_front xs (r, g, e, l) n = rw e (front (next none r g) l n)
+  tree_front xs (r, g, e, l) = forest_front xs (next none r g, e, l)
 
   -- a tree by its root and its size
   pub rooted : (xs : List N) → IsForest R xs → 0 < length xs → (d : N) → R.size (get_or xs (length xs - 1) d) ≡ length xs → IsTree R xs

@@ -35,6 +35,7 @@ pub fn first_bad<G: Grammar>(grammar: &G, part: &[G::Node]) -> Option<usize>
         × IsForest (G.rules grammar.now) (take i part.now)
         × (IsForest (G.rules grammar.now) (take (i + 1) part.now) → ⊥)) }
 {
+    // As `find`, the proof did not close: that there are trees before each record is this loop's invariant, and `find` has none.
     for i in 0..part.len() {
         if !stands(grammar, &part[..i], &part[i]) {
             return Some(i);

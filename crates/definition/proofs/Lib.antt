@@ -1,3 +1,2 @@
-pub mod Roots
 pub mod Shapes
 pub mod Single

@@ -1,5 +1,5 @@
 -- Which records may stand below which in a definition.
-use Rattle.std.specs.Prelude.{ℕ, Bool, true, false, cond, ◌==◌, nat_le}
+use Rattle.std.specs.Prelude.{ℕ, Bool, true, false, if◌then◌else◌, ◌==◌, nat_le}
 use Rattle.records.specs.declared.source.Expr.{Expr}
 use Rattle.records.specs.declared.source.Expr.TheVariants as expr
 use Rattle.records.specs.declared.source.Node.{Node}
@@ -57,15 +57,15 @@ expr_child (expr.Var name) after = kind.Expr
 expr_child (expr.ConstBool val) after = kind.Expr
 expr_child (expr.ConstInt val) after = kind.Expr
 expr_child (expr.ConstPrim val) after = kind.Expr
-expr_child expr.Let after = cond (after == 0) kind.Expr kind.LetDef
+expr_child expr.Let after = if after == 0 then kind.Expr else kind.LetDef
 
 -- what has to stand below a record, by how many trees stand after it there and whether none stands before it
 abbrev pub child_kind : Node → ℕ → Bool → Kind
 child_kind (node.Pattern p) after first = kind.Pattern
 child_kind (node.Expr e) after first = expr_child e after
 child_kind (node.LetDef var ty) after first = kind.Expr
-child_kind node.IfLet after first = cond (after == 0) kind.Expr kind.Pattern
-child_kind (node.Rule prio name) after first = cond (after == 0) kind.Expr (cond first kind.Pattern kind.IfLet)
+child_kind node.IfLet after first = if after == 0 then kind.Expr else kind.Pattern
+child_kind (node.Rule prio name) after first = if after == 0 then kind.Expr else (if first then kind.Pattern else kind.IfLet)
 child_kind (node.Ident name) after first = kind.Ident
 child_kind node.Converter after first = kind.Ident
 

@@ -1,24 +1,24 @@
 // Whether a part of the source list is a definition, and its first bad record if it is not.
-ghost use Rattle.std.specs.Prelude.{Decides, MatchOption};
+ghost use Rattle.std.specs.Prelude.{◌↔◌, IsTrue, MatchOption};
 ghost use Rattle.definition.specs.Lawful.{IsTreeOf, IsDefinition, FirstBad};
 
-use crate::grammar::{Definition, Kind, kind_of};
+use crate::grammar::{Definition, Kind};
 use records::source::{Part, Source};
 use tree::lawful::{first_bad, is_tree};
 
 /// Whether the records lay out one lawful tree, with a root of that kind.
 fn is_tree_of(kind: Kind, records: &[Source]) -> bool
-    ensures { Decides result (IsTreeOf kind records.now) }
+    ensures { IsTrue result ↔ IsTreeOf kind records.now }
 {
-    match records.last() {
-        Some(root) => kind_of(root.node) == kind && is_tree(&Definition, records),
-        None => false,
-    }
+    records
+        .last()
+        .is_some_and(|root| Kind::from(root.node) == kind)
+        && is_tree(&Definition, records)
 }
 
 /// The first bad record of a part that is no definition of that kind.
 pub(crate) fn bad_record(kind: Kind, source: &[Source], part: Part) -> Option<usize>
-    ensures { MatchOption result (IsDefinition kind source.now part) (λ i. FirstBad kind source.now part i) }
+    ensures { MatchOption result (IsDefinition kind source.now part) (FirstBad kind source.now part) }
 {
     if part.start >= part.end {
         return Some(0);

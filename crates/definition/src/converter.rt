@@ -2,7 +2,8 @@
 ghost use Rattle.std.specs.Prelude.{◌≡◌, MatchResult};
 ghost use Rattle.definition.specs.Converters.{ident_record, converter_records, WritesConverter};
 ghost use Rattle.definition.specs.Grammar.{kind_of};
-ghost use Rattle.definition.specs.Lawful.{IsTreeOf, NamesFirstBad};
+ghost use Rattle.definition.specs.Lawful.{NamesFirstBad};
+ghost use Rattle.definition.specs.declared.converter.Converter.{Converter};
 
 use crate::check::bad_record;
 use crate::grammar::Kind;
@@ -26,38 +27,42 @@ pub struct Converter {
 }
 
 impl Ident {
+    /// The placed name that a record is. It asks for such a record, so it is no `From`.
     fn from_record(source: &Source) -> Ident
         requires kind { kind_of source.now.node ≡ Kind.Ident }
         requires size { source.now.size ≡ 1 }
         ensures { ident_record result ≡ source.now }
     {
-        match source.node {
-            Node::Ident { name } => Ident {
-                name,
-                pos: source.pos,
-            },
-            _ => unreachable(),
+        let Node::Ident { name } = source.node else {
+            unreachable()
+        };
+        Ident {
+            name,
+            pos: source.pos,
         }
     }
 }
 
 impl Converter {
-    /// What the records of a lawful converter definition say.
+    /// The converter definition that the records write. It asks for such records, so it is no `From`.
     fn from_records(records: &[Source]) -> Converter
-        requires { IsTreeOf Kind.Converter records.now }
+        requires { (c : Converter) × (records.now ≡ converter_records c) }
         ensures { converter_records result ≡ records.now }
     {
+        let [term, inner_ty, outer_ty, root] = records else {
+            unreachable()
+        };
         Converter {
-            term: Ident::from_record(&records[0]),
-            inner_ty: Ident::from_record(&records[1]),
-            outer_ty: Ident::from_record(&records[2]),
-            pos: records[3].pos,
+            term: Ident::from_record(term),
+            inner_ty: Ident::from_record(inner_ty),
+            outer_ty: Ident::from_record(outer_ty),
+            pos: root.pos,
         }
     }
 
     /// The converter definition that a part of the source list writes.
     pub fn read(source: &[Source], part: Part) -> Result<Converter, Refusal>
-        ensures { MatchResult result (λ c. WritesConverter source.now part c) (λ e. NamesFirstBad Kind.Converter source.now part e) }
+        ensures { MatchResult result (WritesConverter source.now part) (NamesFirstBad Kind.Converter source.now part) }
     {
         match bad_record(Kind::Converter, source, part) {
             Some(record) => Err(Refusal::UnlawfulDefinition { record }),

@@ -17,17 +17,19 @@ pub enum Kind {
     Converter,
 }
 
-pub(crate) fn kind_of(node: Node) -> Kind
-    ensures { result ≡ kind_of node }
-{
-    match node {
-        Node::Pattern(_) => Kind::Pattern,
-        Node::Expr(_) => Kind::Expr,
-        Node::LetDef { .. } => Kind::LetDef,
-        Node::IfLet => Kind::IfLet,
-        Node::Rule { .. } => Kind::Rule,
-        Node::Ident { .. } => Kind::Ident,
-        Node::Converter => Kind::Converter,
+impl From<Node> for Kind {
+    ghost from_gives = { λ node kind. kind ≡ kind_of node };
+
+    fn from(node: Node) -> Kind {
+        match node {
+            Node::Pattern(_) => Kind::Pattern,
+            Node::Expr(_) => Kind::Expr,
+            Node::LetDef { .. } => Kind::LetDef,
+            Node::IfLet => Kind::IfLet,
+            Node::Rule { .. } => Kind::Rule,
+            Node::Ident { .. } => Kind::Ident,
+            Node::Converter => Kind::Converter,
+        }
     }
 }
 
@@ -102,6 +104,6 @@ impl Grammar for Definition {
     }
 
     fn takes(&self, node: &Source, child: &Source, after: usize, first: bool) -> bool {
-        kind_of(child.node) == child_kind(node.node, after, first)
+        Kind::from(child.node) == child_kind(node.node, after, first)
     }
 }

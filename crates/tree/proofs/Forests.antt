@@ -1,6 +1,6 @@
 -- Laws of the layout: a list lays out one forest at most, and what stands in front of any of its records is laid out too.
 use Rattle.std.proofs.Common.{◌≡◌, ℕ, ◌+◌, ◌-◌, ◌<◌, List, [], ◌∷◌, ◌++◌, length, get_or, take, drop, sym, refl, ap, ◌∙◌, inl, inr, arith}
-use lib.Seq.{take-append-add}
+use Rattle.std.proofs.Math.Seq.{take-append-add}
 use Rattle.std.proofs.lemmas.List.{append-nil, append_assoc, length-append, length_push, same_from_push, take_at, drop_at, take-append-le, take_all, get_or_push}
 use Rattle.std.proofs.lemmas.Bool.{cases_lt}
 use Rattle.tree.specs.Layout.{Forest, none, next, flat, Rules, Lawful, IsForest, IsTree}
@@ -21,10 +21,8 @@ module _ {N : Type 0} where
   length_next f r g = simp length-append
 
   -- the last record is the root of the last tree
-  pub last_root : (xs : List N) (f : Forest N) (r : N) (g : Forest N) → xs ≡ flat (next f r g) → (d : N) → get_or xs (length xs - 1) d ≡ r
-  last_root xs f r g e d =
-      let same = e ∙ flat_next f r g in
-      ap (λ ys. get_or ys (length xs - 1) d) same ∙ get_or_push (flat f ++ flat g) r d (length xs - 1) (omega (arith, ap length same, length_push (flat f ++ flat g) r))
+  last_root : (xs : List N) (f : Forest N) (r : N) (g : Forest N) → xs ≡ flat (next f r g) → (d : N) → get_or xs (length xs - 1) d ≡ r
+  last_root xs f r g e d = grind (arith, flat_next f r g, get_or_push (flat f ++ flat g) r d, length_push (flat f ++ flat g) r)
 
   -- a forest whose last record is r has a last tree with that root
   pub last_tree : (f : Forest N) (xs : List N) (r : N) → flat f ≡ xs ++ r ∷ [] → (a : Forest N) × (b : Forest N) × (f ≡ next a r b)
@@ -54,7 +52,7 @@ module _ {N : Type 0} (R : Rules N) where
   joined f none lf lg = (f, append-nil (flat f), lf)
   joined f (next g r k) lf (lg, lk, size, below) =
       let (h, e, lh) = joined f g lf lg in
-      (next h r k, sym (append_assoc (flat f) (flat g) _) ∙ ap (λ xs. xs ++ (flat k ++ r ∷ [])) e, (lh, lk, size, below))
+      (next h r k, rw (← append_assoc (flat f) (flat g) _, e) refl, (lh, lk, size, below))
 
   -- the records in front of a place lay out trees too
   pub front : (f : Forest N) → Lawful R f → (n : ℕ) → IsForest R (take n (flat f))
@@ -87,6 +85,4 @@ module _ {N : Type 0} (R : Rules N) where
       (r, g, e ∙ ap (λ k. flat (next k r g)) bare, (tt, lg, full, below))
 
   pub tree_size : (xs : List N) → IsTree R xs → (0 < length xs) × ((d : N) → R.size (get_or xs (length xs - 1) d) ≡ length xs)
-  tree_size xs (r, g, e, l) =
-      let long : length xs ≡ length (flat g) + 1 = ap length e ∙ length_push (flat g) r in
-      (omega arith, λ d. ap R.size (last_root xs none r g e d) ∙ l.2 ∙ sym long)
+  tree_size xs (r, g, e, l) = (omega (arith, ap length e, length_push (flat g) r), λ d. grind (arith, last_root xs none r g e d, length_push (flat g) r))

@@ -1,7 +1,9 @@
 -- The walk back from a root over the trees in front of it, and what it decides.
 use Rattle.std.proofs.Common.{◌≡◌, ℕ, ◌+◌, ◌-◌, ◌<◌, ◌≤◌, ◌↔◌, true, false, ◌==◌, List, [], ◌∷◌, ◌++◌, length, get_or, take, drop, IsTrue, sym, ap, ◌∙◌, arith}
-use Rattle.std.proofs.lemmas.List.{append_assoc, length-append, length_push, same_from_push, take_at, take_all, take_more, take-append-drop, length-take-le}
-use Rattle.std.proofs.lemmas.Bool.{false≢true, ne_eqb, eq-eqb}
+use Rattle.std.proofs.lemmas.List.{append_assoc, length-append, length_push, same_from_push, take_at, take-append-drop, length-take-le}
+use Rattle.std.proofs.lemmas.Grind.{common_steps}
+use Rattle.std.proofs.lemmas.Bool.Decides.{nat_tests}
+use Rattle.std.proofs.lemmas.Bool.{false≢true}
 use Rattle.tree.specs.Layout.{Forest, none, next, flat, Rules, empty, Below, Lawful, IsForest}
 use Rattle.tree.proofs.Forests.{split_same, flat_next, length_next, last_tree}
 
@@ -42,12 +44,12 @@ module _ {N : Type 0} (R : Rules N) (r : N) where
   -- rest ends with c
   module _ (rest : List N) (some : 0 < length rest) (c : N) (is : c ≡ get_or rest (length rest - 1) c) where
     apart : rest ≡ take (length rest - 1) rest ++ c ∷ []
-    apart = sym (take_all (length rest - 1 + 1) rest (omega arith)) ∙ take_more rest (length rest - 1) c (omega arith) ∙ ap (λ x. take (length rest - 1) rest ++ x ∷ []) (sym is)
+    apart = grind (arith, common_steps)
 
     -- none stands before c just where its tree fills what is left
     first_is : (b h : Forest N) → rest ≡ flat (next b c h) → R.size c ≡ length (flat h) + 1 → empty b ≡ (R.size c == length rest)
-    first_is none h e size = sym (eq-eqb _ _ (omega (arith, size, ap length e, length_next none c h)))
-    first_is (next f d g) h e size = sym (ne_eqb _ _ (λ w. omega (arith, w, size, ap length e, length_next (next f d g) c h, length_next f d g)))
+    first_is none h e size = grind (arith, nat_tests, length_next none c h)
+    first_is (next f d g) h e size = grind (arith, nat_tests, length_next (next f d g) c h, length_next f d g)
 
     -- what may stand below r ends with the tree of c, which fits there, and without that tree may stand there too
     pub last_below : (after : ℕ) → MayStand R r after rest

@@ -18,7 +18,9 @@ fn is_tree_of(kind: Kind, records: &[Source]) -> bool
 
 /// The first bad record of a part that is no definition of that kind.
 pub(crate) fn bad_record(kind: Kind, source: &[Source], part: Part) -> Option<usize>
-    ensures { MatchOption result (IsDefinition kind source.now part) (FirstBad kind source.now part) }
+    ensures { MatchOption result
+        (IsDefinition kind source.now part)
+        (FirstBad kind source.now part) }
 {
     if part.start >= part.end {
         return Some(0);

@@ -62,7 +62,9 @@ impl Converter {
 
     /// The converter definition that a part of the source list writes.
     pub fn read(source: &[Source], part: Part) -> Result<Converter, Refusal>
-        ensures { MatchResult result (WritesConverter source.now part) (NamesFirstBad Kind.Converter source.now part) }
+        ensures { MatchResult result
+            (WritesConverter source.now part)
+            (NamesFirstBad Kind.Converter source.now part) }
     {
         match bad_record(Kind::Converter, source, part) {
             Some(record) => Err(Refusal::UnlawfulDefinition { record }),

@@ -30,12 +30,13 @@ fn stands<G: Grammar>(grammar: &G, trees: &[G::Node], root: &G::Node) -> bool
 
 /// The first bad record: the first at which the records so far stop laying out trees.
 pub fn first_bad<G: Grammar>(grammar: &G, part: &[G::Node]) -> Option<usize>
-    ensures { MatchOption result (IsForest (G.rules grammar.now) part.now) (λ i.
-        (i < length part.now)
+    ensures { MatchOption result
+        (IsForest (G.rules grammar.now) part.now)
+        (λ i. (i < length part.now)
         × IsForest (G.rules grammar.now) (take i part.now)
         × (IsForest (G.rules grammar.now) (take (i + 1) part.now) → ⊥)) }
 {
-    // As `find`, the proof did not close: that there are trees before each record is this loop's invariant, and `find` has none.
+    // With `find` the proof did not close: the loop's invariant is that there are trees before record `i`, and `find` takes none.
     for i in 0..part.len() {
         if !stands(grammar, &part[..i], &part[i]) {
             return Some(i);

@@ -1,6 +1,12 @@
 // What keeps a text from being a case file.
+ghost use Rattle.std.specs.Prelude.{◌≡◌};
+ghost use Rattle.items.specs.Faults.{number_fault};
 
-#[derive(Clone, Copy)]
+use std::error::Error;
+use std::fmt;
+use words::NumberFault;
+
+#[derive(Clone, Copy, Debug, PartialEq, Eq)]
 pub enum Malformed {
     /// Two spaces in a row, or a space at an end of the line.
     EmptyWord,
@@ -19,4 +25,34 @@ pub enum Malformed {
     AfterCall,
     /// A host's row with no host of its kind before it, or with a call between.
     NoHost,
+}
+
+impl fmt::Display for Malformed {
+    fn fmt<W: fmt::Write>(&self, f: &mut fmt::Formatter<W>) -> fmt::Result {
+        f.write_str(match self {
+            Malformed::EmptyWord => "an empty word",
+            Malformed::UnknownLine => "no line begins so",
+            Malformed::UnknownWord => "an unknown tag, kind or flag",
+            Malformed::MissingWord => "a word is missing",
+            Malformed::SurplusWord => "a word too many",
+            Malformed::NotANumber => "not a number",
+            Malformed::DoesNotFit => "a number that does not fit",
+            Malformed::FarName => "a name beyond 32 bits",
+            Malformed::AfterCall => "an environment line behind the first call",
+            Malformed::NoHost => "no host here that takes this row",
+        })
+    }
+}
+
+impl Error for Malformed {}
+
+impl From<NumberFault> for Malformed {
+    ghost from_gives = { λ fault e. e ≡ number_fault fault };
+
+    fn from(fault: NumberFault) -> Malformed {
+        match fault {
+            NumberFault::NotANumber => Malformed::NotANumber,
+            NumberFault::DoesNotFit => Malformed::DoesNotFit,
+        }
+    }
 }

@@ -84,7 +84,7 @@ pub enum Item {
     Dump,
 }
 
-#[derive(Clone, Copy)]
+#[derive(Clone, Copy, PartialEq, Eq)]
 pub enum HostKind {
     Measure,
     Listed,

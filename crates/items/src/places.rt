@@ -69,15 +69,9 @@ impl Place {
                 host: Some(kind),
                 ..self
             }),
-            Class::Row(kind) => match (kind, self.host) {
-                (HostKind::Measure, Some(HostKind::Measure)) => Ok(self),
-                (HostKind::Listed, Some(HostKind::Listed)) => Ok(self),
-                _ => Err(Malformed::NoHost),
-            },
-            Class::Sign => match self.host {
-                Some(_) => Ok(self),
-                None => Err(Malformed::NoHost),
-            },
+            Class::Row(kind) if self.host == Some(kind) => Ok(self),
+            Class::Sign if self.host.is_some() => Ok(self),
+            Class::Row(_) | Class::Sign => Err(Malformed::NoHost),
             Class::Call => Ok(Place {
                 called: true,
                 host: None,

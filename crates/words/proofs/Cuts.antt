@@ -1,7 +1,6 @@
 -- How a line is cut at its first space.
-use Rattle.std.proofs.Common.{◌≡◌, ℕ, suc, ◌+◌, ◌<◌, false, eqb, List, [], ◌∷◌, ◌++◌, length, get_or, IsAscii, sym, ap, ◌∙◌, ⊎_elim, append_assoc, append-nil, add_assoc, arith, rules}
-use Rattle.std.proofs.lemmas.List.{get_or_past}
-use Rattle.std.proofs.str.Laws.{order}
+use Rattle.std.proofs.Common.{◌≡◌, ℕ, suc, ◌+◌, ◌<◌, false, eqb, List, [], ◌∷◌, ◌++◌, length, get_or, IsAscii, sym, ap, ◌∙◌, append_assoc, append-nil, add_assoc, arith, rules}
+use Rattle.std.proofs.lemmas.Str.Ascii.{IsAscii-from_all}
 use Rattle.words.specs.Cut.{cut, Seen, Printable}
 
 -- no byte is a space
@@ -25,7 +24,7 @@ at_end start begun [] h = ap (λ x. (start, x) ∷ []) (sym (append-nil begun))
 at_end start begun (b ∷ w) h = rw (letter b w h) (at_end start (begun ++ b ∷ []) w (tail b w h) ∙ ap (λ x. (start, x) ∷ []) (append_assoc begun (b ∷ []) w))
 
 pub ascii : (line : List ℕ) → Printable line → IsAscii line
-ascii line p i = ⊎_elim (λ within. omega (arith, p i within)) (λ past. rw (get_or_past line i 0 past) (omega arith)) (order i (length line))
+ascii line p = IsAscii-from_all line (λ k d h. omega (arith, p k d h))
 
 pub one_more : (cuts : List Seen) (start : ℕ) (rest w after line : List ℕ) → rest ≡ w ++ (32 ∷ after) → Whole w → cuts ++ cut start [] rest ≡ cut 0 [] line → (cuts ++ (start, w) ∷ []) ++ cut (start + (length w + 1)) [] after ≡ cut 0 [] line
 one_more cuts start rest w after line e h all =

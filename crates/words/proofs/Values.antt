@@ -1,5 +1,5 @@
 -- Digits, and what `parse` answers at them.
-use Rattle.std.proofs.Common.{◌≡◌, ℕ, ◌+◌, ◌^◌, ◌<◌, ◌≤◌, true, false, not, ◌&&◌, eqb, List, [], ◌∷◌, length, get_or, drop, Ok, Err, Result, sym, refl, ap, ◌∙◌, ⊎_elim, add-one, arith, drop-cons, rules, ne_eqb, le-leb}
+use Rattle.std.proofs.Common.{◌≡◌, ℕ, ◌^◌, ◌<◌, ◌≤◌, true, false, ◌&&◌, eqb, List, [], ◌∷◌, length, Ok, Err, Result, sym, refl, ap, ◌∙◌, ⊎_elim, arith, rules, ne_eqb, le-leb}
 use borrow.Author.Tests.{lt-leb}
 use Rattle.std.specs.Result.{OkIff}
 use Rattle.std.specs.Str.Parse.{ParsesUnsigned}
@@ -7,7 +7,8 @@ use Rattle.std.specs.Char.{is_ascii_digit}
 use Rattle.std.specs.Str.{all_ascii_digits}
 use Rattle.std.proofs.lemmas.Str.Parse.{IsNumeralModel, numerals_by_fold, parse_digits}
 use Rattle.std.proofs.lemmas.Result.{OkIff-at_ok, OkIff-at_err}
-use Rattle.std.proofs.lemmas.List.{drop_all}
+use Rattle.std.proofs.lemmas.List.Recursion.{same_from_clauses}
+use Rattle.std.specs.List.{list_all}
 use Rattle.std.proofs.str.Laws.{order}
 use Rattle.words.specs.declared.numerals.NumberFault.TheVariants.{NotANumber, DoesNotFit}
 use Rattle.words.specs.Numbers.{numeral, value_on, value, natural, signed, negated, positive}
@@ -15,20 +16,8 @@ use Rattle.words.specs.Numbers.{numeral, value_on, value, natural, signed, negat
 own : IsNumeralModel (λ ds. all_ascii_digits ds ≡ true) value
 own = numerals_by_fold _ (search rules) value_on (search rules)
 
-pub one_digit : (t : List ℕ) (i : ℕ) → i < length t → all_ascii_digits (drop i t) ≡ (is_ascii_digit (get_or t i 0) && all_ascii_digits (drop (i + 1) t))
-one_digit t i h = rw (add-one, drop-cons t i 0)
-
-pub no_digit : (ds : List ℕ) → all_ascii_digits ds ≡ false → numeral ds ≡ false
-no_digit [] e = refl
-no_digit (d ∷ ds) e = e
-
-pub all_digit : (ds : List ℕ) (i : ℕ) → length ds ≤ i → all_ascii_digits (drop i ds) ≡ all_ascii_digits ds → numeral ds ≡ not (eqb (length ds) 0)
-all_digit [] i h e = refl
-all_digit (d ∷ ds) i h e = sym e ∙ ap all_ascii_digits (drop_all i (d ∷ ds) h) ∙ search rules
-
 digits : (ds : List ℕ) → numeral ds ≡ true → all_ascii_digits ds ≡ true
-digits [] e = refl
-digits (d ∷ ds) e = e
+digits ds e = same_from_clauses all_ascii_digits (list_all is_ascii_digit) (λ d b. is_ascii_digit d && b) refl (λ _ _. refl) (λ _ _. refl) ds ∙ search (rules, e)
 
 some : (ds : List ℕ) → numeral ds ≡ true → 0 < length ds
 some [] e = absurd (search rules)

@@ -1,5 +1,5 @@
 -- A line cut into words.
-use Rattle.std.specs.Prelude.{ℕ, ◌+◌, ◌<◌, Bool, true, cond, List, [], ◌∷◌, ◌++◌, length, ◌==◌, slice_index}
+use Rattle.std.specs.Prelude.{ℕ, ◌+◌, Bool, true, if◌then◌else◌, List, [], ◌∷◌, ◌++◌, length, ◌==◌, All}
 use Rattle.std.specs.Int.{IsInRange}
 use Rattle.words.specs.declared.cutting.Word.{Word}
 
@@ -10,7 +10,7 @@ skipped (b ∷ bs) = b == 35
 
 -- only spaces and the characters from ! to ~
 abbrev pub Printable : List ℕ → Type 0
-Printable line = (k : ℕ) → k < length line → IsInRange 32 126 (slice_index line k)
+Printable line = All (IsInRange 32 126) line
 
 -- where a word begins, and its bytes
 abbrev pub Seen : Type 0
@@ -22,4 +22,4 @@ seen w = (w.start, w.text.now)
 -- the words of a line from a place on, after the bytes of the word that began there
 unfoldable pub cut : ℕ → List ℕ → List ℕ → List Seen
 cut start begun [] = (start, begun) ∷ []
-cut start begun (b ∷ bs) = cond (b == 32) ((start, begun) ∷ cut (start + length begun + 1) [] bs) (cut start (begun ++ b ∷ []) bs)
+cut start begun (b ∷ bs) = if b == 32 then (start, begun) ∷ cut (start + length begun + 1) [] bs else cut start (begun ++ b ∷ []) bs

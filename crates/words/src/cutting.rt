@@ -17,12 +17,9 @@ pub fn line_len(text: &[u8]) -> usize
     ensures before { (k : ℕ) → k < result → slice_index text.now k ≢ 10 }
     ensures found { result < length text.now → slice_index text.now result ≡ 10 }
 {
-    for (i, byte) in text.iter().enumerate() {
-        if *byte == b'\n' {
-            return i;
-        }
-    }
-    text.len()
+    text.iter()
+        .position(|byte| *byte == b'\n')
+        .unwrap_or(text.len())
 }
 
 /// Whether a line says nothing: it is empty, or a comment.
@@ -36,15 +33,10 @@ pub fn is_skipped(line: &[u8]) -> bool
 pub fn printable(line: &[u8]) -> Option<&str>
     ensures { MatchOption result (Printable line.now → ⊥) (λ s. Printable line.now × (s.now ≡ line.now)) }
 {
-    for byte in line {
-        if *byte < b' ' || *byte > b'~' {
-            return None;
-        }
+    if !line.iter().all(|byte| (b' '..=b'~').contains(byte)) {
+        return None;
     }
-    match std::str::from_utf8(line) {
-        Ok(text) => Some(text),
-        Err(_) => None,
-    }
+    std::str::from_utf8(line).ok()
 }
 
 /// What stands between single spaces; two spaces in a row, one in front or one at the end make an empty word.

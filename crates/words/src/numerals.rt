@@ -14,12 +14,7 @@ pub enum NumberFault {
 fn is_numeral(text: &str) -> bool
     ensures { result ≡ numeral text.now }
 {
-    for byte in text.as_bytes() {
-        if !byte.is_ascii_digit() {
-            return false;
-        }
-    }
-    !text.is_empty()
+    !text.is_empty() && text.bytes().all(|byte| byte.is_ascii_digit())
 }
 
 /// The number that a word of digits writes, if it is at most `max`.
@@ -31,14 +26,8 @@ pub fn number(text: &str, max: u64) -> Result<u64, NumberFault>
         return Err(NumberFault::NotANumber);
     }
     match text.parse::<u64>() {
-        Ok(n) => {
-            if n <= max {
-                Ok(n)
-            } else {
-                Err(NumberFault::DoesNotFit)
-            }
-        }
-        Err(_) => Err(NumberFault::DoesNotFit),
+        Ok(n) if n <= max => Ok(n),
+        _ => Err(NumberFault::DoesNotFit),
     }
 }
 

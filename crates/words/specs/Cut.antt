@@ -1,5 +1,6 @@
 -- A line cut into words.
-use Rattle.std.specs.Prelude.{ℕ, ◌+◌, Bool, true, if◌then◌else◌, List, [], ◌∷◌, ◌++◌, length, ◌==◌, All}
+use Rattle.std.specs.Prelude.{ℕ, ◌+◌, Bool, true, List, [], ◌∷◌, length, ◌==◌, All}
+use Rattle.std.specs.List.{slice_split}
 use Rattle.std.specs.Int.{IsInRange}
 use Rattle.words.specs.declared.cutting.Word.{Word}
 
@@ -19,7 +20,11 @@ Seen = ℕ × List ℕ
 abbrev pub seen : Word → Seen
 seen w = (w.start, w.text.now)
 
--- the words of a line from a place on, after the bytes of the word that began there
-unfoldable pub cut : ℕ → List ℕ → List ℕ → List Seen
-cut start begun [] = (start, begun) ∷ []
-cut start begun (b ∷ bs) = if b == 32 then (start, begun) ∷ cut (start + length begun + 1) [] bs else cut start (begun ++ b ∷ []) bs
+-- pieces, each with its place: the first begins at start, and one byte stands between two
+abbrev pub placed : ℕ → List (List ℕ) → List Seen
+placed start [] = []
+placed start (w ∷ ws) = (start, w) ∷ placed (start + (length w + 1)) ws
+
+-- the words of a line: what stands between single spaces
+unfoldable pub cut : List ℕ → List Seen
+cut line = placed 0 (slice_split (λ b. b == 32) line)

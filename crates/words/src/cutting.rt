@@ -41,16 +41,13 @@ pub fn printable(line: &[u8]) -> Option<&str>
 
 /// What stands between single spaces; two spaces in a row, one in front or one at the end make an empty word.
 pub fn words<'a>(heap: Global, line: &'a str) -> Result<Vec<Word<'a>>, AllocError>
-    ensures { IfOk result (λ v. map seen v.items ≡ cut 0 [] line.now) }
+    ensures { IfOk result (λ v. map seen v.items ≡ cut line.now) }
 {
     let mut words = Vec::new(heap);
     let mut start = 0;
-    let mut rest = line;
-    while let Some((text, after)) = rest.split_once(' ') {
+    for text in line.split(' ') {
         words.push(Word { start, text })?;
         start += text.len() + 1;
-        rest = after;
     }
-    words.push(Word { start, text: rest })?;
     Ok(words)
 }

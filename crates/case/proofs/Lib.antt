@@ -1,4 +1,0 @@
-pub mod Colons
-pub mod Letters
-pub mod Tables
-pub mod Words

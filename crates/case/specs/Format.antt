@@ -6,8 +6,8 @@ use Rattle.items.specs.declared.items.Item.{Item}
 use Rattle.items.specs.declared.items.Item.TheVariants as items
 use Rattle.case.specs.declared.kinds.Keyword.{Keyword}
 use Rattle.case.specs.declared.kinds.Keyword.TheVariants as key
-use Rattle.case.specs.Fields.{bind, filled}
-use Rattle.case.specs.Kinds.{keyword_at}
+use Rattle.case.specs.Fields.{bind, word, filled}
+use Rattle.case.specs.Kinds.{keyword}
 use Rattle.case.specs.Lines.{limit_line, expand_line, symbol_line, type_line, const_line, term_line, host_line, row_line, code_line, make_line, lit_line, sign_line, lone, part_at, run_line}
 use Rattle.case.specs.Sources.{source_line}
 
@@ -35,4 +35,4 @@ line ws key.Dump = lone items.Dump ws
 
 -- no word is empty, and the first says what the line is
 abbrev pub item : List Word → Result Item Malformed
-item ws = bind (filled ws) (λ _. bind (keyword_at ws 0) (λ k. line ws k))
+item ws = bind (filled ws) (λ _. bind (keyword (word ws 0)) (λ k. line ws k))

@@ -1,9 +1,10 @@
 -- The words that have a meaning of their own.
-use Rattle.std.specs.Prelude.{ℕ, Bool, true, false, cond, List, [], ◌∷◌, Some, None, Ok, Err, codes, Option, Result, ◌==◌}
+use Rattle.std.specs.Prelude.{ℕ, Bool, true, false, if◌then◌else◌, List, [], ◌∷◌, Ok, Err, codes, Result, ◌==◌}
 use Rattle.std.specs.Borrow.{Bor}
+use Rattle.std.specs.List.{list_any, before_first, after_first}
 use Rattle.std.specs.Str.{bytes_eq}
 use Rattle.records.specs.declared.env.ConstructorKind.{ConstructorKind}
-use Rattle.records.specs.declared.env.ConstructorKind.TheVariants as constructor
+use Rattle.records.specs.declared.env.ConstructorKind.TheVariants as kinds
 use Rattle.records.specs.declared.env.ExtractorKind.{ExtractorKind}
 use Rattle.records.specs.declared.env.ExtractorKind.TheVariants as extractors
 use Rattle.records.specs.declared.env.TermFlags.{TermFlags}
@@ -26,13 +27,13 @@ use Rattle.case.specs.declared.kinds.Tag.{Tag}
 use Rattle.case.specs.declared.kinds.Tag.TheVariants as tag
 use Rattle.case.specs.declared.kinds.TermTag.{TermTag}
 use Rattle.case.specs.declared.kinds.TermTag.TheVariants as term
-use Rattle.words.specs.declared.cutting.Word.{Word}
-use Rattle.case.specs.Fields.{bind, number, text}
+use Rattle.words.specs.Cut.{Seen}
+use Rattle.case.specs.Fields.{bind, number, dash}
 
 -- what a word means by a table, and the fault where it is not there
 abbrev pub look_up : {K : Type 0} → Malformed → List (List ℕ × K) → List ℕ → Result K Malformed
 look_up e [] w = Err e
-look_up e (entry ∷ entries) w = cond (bytes_eq w entry.0) (Ok entry.1) (look_up e entries w)
+look_up e (entry ∷ entries) w = if bytes_eq w entry.0 then Ok entry.1 else look_up e entries w
 
 abbrev pub UnknownLine : Malformed
 UnknownLine = malformed.UnknownLine
@@ -103,17 +104,15 @@ row_kinds = (codes "sum", row.Sum) ∷ (codes "same", row.Same) ∷ []
 abbrev pub literal_kinds : List (List ℕ × LiteralKind)
 literal_kinds = (codes "bool", literal.Bool) ∷ (codes "int", literal.Int) ∷ (codes "const", literal.Const) ∷ []
 
-abbrev pub constructors : List (List ℕ × Option ConstructorKind)
-constructors = (codes "-", None) ∷ (codes "int", Some constructor.Internal) ∷ (codes "ext", Some constructor.External) ∷ []
+abbrev pub constructors : List (List ℕ × ConstructorKind)
+constructors = (codes "int", kinds.Internal) ∷ (codes "ext", kinds.External) ∷ []
+
+abbrev pub is_colon : ℕ → Bool
+is_colon b = b == 58
 
 -- what stands before and behind the first colon
-abbrev pub behind : ℕ → Result (List ℕ × List ℕ) Malformed → Result (List ℕ × List ℕ) Malformed
-behind b (Ok p) = Ok (b ∷ p.0, p.1)
-behind b (Err e) = Err e
-
 unfoldable pub at_colon : List ℕ → Result (List ℕ × List ℕ) Malformed
-at_colon [] = Err malformed.UnknownWord
-at_colon (b ∷ bs) = cond (b == 58) (Ok ([], bs)) (behind b (at_colon bs))
+at_colon t = if list_any is_colon t then Ok (before_first is_colon t, after_first is_colon t) else Err malformed.UnknownWord
 
 abbrev pub parts_seen : Result (Bor (List ℕ) × Bor (List ℕ)) Malformed → Result (List ℕ × List ℕ) Malformed
 parts_seen (Ok p) = Ok (p.0.now, p.1.now)
@@ -124,23 +123,23 @@ abbrev pub part : List ℕ → Result Part Malformed
 part t = bind (at_colon t) (λ p. bind (number 4294967295 p.0) (λ start. bind (number 4294967295 p.1) (λ end. Ok (record { start = start; end = end }))))
 
 unfoldable pub template : List ℕ → Result Part Malformed
-template t = bind (at_colon t) (λ p. cond (bytes_eq p.0 (codes "tmpl")) (part p.1) (Err malformed.UnknownWord))
+template t = bind (at_colon t) (λ p. if bytes_eq p.0 (codes "tmpl") then part p.1 else Err malformed.UnknownWord)
 
-unfoldable pub extractor : List ℕ → Result (Option ExtractorKind) Malformed
-extractor t =
-    cond (bytes_eq t (codes "-")) (Ok None)
-    (cond (bytes_eq t (codes "ext")) (Ok (Some extractors.External)) (bind (template t) (λ p. Ok (Some (extractors.Internal p)))))
+-- ext, or a template
+unfoldable pub extractor : Seen → Result ExtractorKind Malformed
+extractor w = if bytes_eq w.1 (codes "ext") then Ok extractors.External else bind (template w.1) (λ p. Ok (extractors.Internal p))
 
 -- a flag that must not be there yet
 abbrev pub raised : Bool → TermFlags → Result TermFlags Malformed
-raised there f = cond there (Err malformed.UnknownWord) (Ok f)
+raised there f = if there then Err malformed.UnknownWord else Ok f
 
 abbrev pub with_flag : TermFlags → ℕ → Result TermFlags Malformed
 with_flag f b =
-    cond (b == 112) (raised f.pure (record { pure = true; multi = f.multi; partial = f.partial; rec = f.rec }))
-    (cond (b == 109) (raised f.multi (record { pure = f.pure; multi = true; partial = f.partial; rec = f.rec }))
-    (cond (b == 111) (raised f.partial (record { pure = f.pure; multi = f.multi; partial = true; rec = f.rec }))
-    (cond (b == 114) (raised f.rec (record { pure = f.pure; multi = f.multi; partial = f.partial; rec = true })) (Err malformed.UnknownWord))))
+    if b == 112 then raised f.pure (record { pure = true; multi = f.multi; partial = f.partial; rec = f.rec })
+    else if b == 109 then raised f.multi (record { pure = f.pure; multi = true; partial = f.partial; rec = f.rec })
+    else if b == 111 then raised f.partial (record { pure = f.pure; multi = f.multi; partial = true; rec = f.rec })
+    else if b == 114 then raised f.rec (record { pure = f.pure; multi = f.multi; partial = f.partial; rec = true })
+    else Err malformed.UnknownWord
 
 abbrev pub no_flags : TermFlags
 no_flags = record { pure = false; multi = false; partial = false; rec = false }
@@ -150,30 +149,30 @@ flags_on f [] = Ok f
 flags_on f (b ∷ bs) = bind (with_flag f b) (λ f. flags_on f bs)
 
 -- -, or letters out of p m o r, each at most once
-unfoldable pub flags : List ℕ → Result TermFlags Malformed
-flags t = cond (bytes_eq t (codes "-")) (Ok no_flags) (flags_on no_flags t)
+unfoldable pub flags : Seen → Result TermFlags Malformed
+flags w = if dash w then Ok no_flags else flags_on no_flags w.1
 
--- what word i means by each table
-unfoldable pub keyword_at : List Word → ℕ → Result Keyword Malformed
-keyword_at ws i = look_up UnknownLine keywords (text ws i)
+-- what a word means by each table
+unfoldable pub keyword : Seen → Result Keyword Malformed
+keyword w = look_up UnknownLine keywords w.1
 
-unfoldable pub tag_at : List Word → ℕ → Result Tag Malformed
-tag_at ws i = look_up UnknownWord tags (text ws i)
+unfoldable pub tag_of : Seen → Result Tag Malformed
+tag_of w = look_up UnknownWord tags w.1
 
-unfoldable pub type_kind_at : List Word → ℕ → Result TypeKind Malformed
-type_kind_at ws i = look_up UnknownWord type_kinds (text ws i)
+unfoldable pub type_kind : Seen → Result TypeKind Malformed
+type_kind w = look_up UnknownWord type_kinds w.1
 
-unfoldable pub host_kind_at : List Word → ℕ → Result HostKind Malformed
-host_kind_at ws i = look_up UnknownWord host_kinds (text ws i)
+unfoldable pub host_kind : Seen → Result HostKind Malformed
+host_kind w = look_up UnknownWord host_kinds w.1
 
-unfoldable pub row_kind_at : List Word → ℕ → Result RowKind Malformed
-row_kind_at ws i = look_up UnknownWord row_kinds (text ws i)
+unfoldable pub row_kind : Seen → Result RowKind Malformed
+row_kind w = look_up UnknownWord row_kinds w.1
 
-unfoldable pub literal_kind_at : List Word → ℕ → Result LiteralKind Malformed
-literal_kind_at ws i = look_up UnknownWord literal_kinds (text ws i)
+unfoldable pub literal_kind : Seen → Result LiteralKind Malformed
+literal_kind w = look_up UnknownWord literal_kinds w.1
 
-unfoldable pub constructor_at : List Word → ℕ → Result (Option ConstructorKind) Malformed
-constructor_at ws i = look_up UnknownWord constructors (text ws i)
+unfoldable pub constructor : Seen → Result ConstructorKind Malformed
+constructor w = look_up UnknownWord constructors w.1
 
-unfoldable pub term_tag_at : List Word → ℕ → Result TermTag Malformed
-term_tag_at ws i = look_up UnknownWord term_tags (text ws i)
+unfoldable pub term_tag : Seen → Result TermTag Malformed
+term_tag w = look_up UnknownWord term_tags w.1

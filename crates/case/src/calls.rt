@@ -2,7 +2,7 @@
 ghost use Rattle.std.specs.Prelude.{◌≡◌};
 ghost use Rattle.case.specs.Lines.{lone, part_at, run_line};
 
-use crate::fields::{check_count, check_least, check_numbers, long_at, short_at, wide_at};
+use crate::fields::{check_count, check_each, check_least, field};
 use items::{Item, Malformed};
 use records::ids::RuleId;
 use records::source::Part;
@@ -21,9 +21,10 @@ pub(crate) fn read_part(words: &[Word<'_>]) -> Result<Part, Malformed>
     ensures { result ≡ part_at words.now }
 {
     check_count(words, 3)?;
-    let start = wide_at(words, 1)?;
-    let end = wide_at(words, 2)?;
-    Ok(Part { start, end })
+    Ok(Part {
+        start: field(words, 1)?,
+        end: field(words, 2)?,
+    })
 }
 
 /// `run RULE VALUES WORK ARG...`
@@ -31,10 +32,10 @@ pub(crate) fn run(words: &[Word<'_>]) -> Result<Item, Malformed>
     ensures { result ≡ run_line words.now }
 {
     check_least(words, 4)?;
-    let rule = RuleId(short_at(words, 1)?);
-    let values = long_at(words, 2)?;
-    let work = long_at(words, 3)?;
-    check_numbers(words, 4, u64::MAX)?;
+    let rule = RuleId(field(words, 1)?);
+    let values = field(words, 2)?;
+    let work = field(words, 3)?;
+    check_each::<u64>(&words[4..])?;
     Ok(Item::Run {
         rule,
         values,

@@ -2,13 +2,8 @@
 ghost use Rattle.std.specs.Prelude.{◌≡◌};
 ghost use Rattle.case.specs.Lines.{limit_line, expand_line, symbol_line, type_line, const_line, term_line, bare, declared, term_kind};
 
-use crate::fields::{
-    SHORT, check_count, check_least, check_numbers, flag_at, is_dash, long_at, name_at, short_at,
-    table_at, text_at,
-};
-use crate::kinds::{
-    TermTag, constructor_at, extractor_kind, term_flags, term_tag_at, type_kind_at,
-};
+use crate::fields::{check_count, check_each, check_least, field, is_dash, word_at};
+use crate::kinds::TermTag;
 use items::{Item, Malformed};
 use records::env::TermKind;
 use records::ids::TypeId;
@@ -19,9 +14,10 @@ pub(crate) fn limit(words: &[Word<'_>]) -> Result<Item, Malformed>
     ensures { result ≡ limit_line words.now }
 {
     check_count(words, 3)?;
-    let table = table_at(words, 1)?;
-    let limit = long_at(words, 2)?;
-    Ok(Item::Limit { table, limit })
+    Ok(Item::Limit {
+        table: field(words, 1)?,
+        limit: field(words, 2)?,
+    })
 }
 
 /// `expand FLAG`
@@ -29,8 +25,9 @@ pub(crate) fn expand(words: &[Word<'_>]) -> Result<Item, Malformed>
     ensures { result ≡ expand_line words.now }
 {
     check_count(words, 2)?;
-    let on = flag_at(words, 1)?;
-    Ok(Item::Expand { on })
+    Ok(Item::Expand {
+        on: field(words, 1)?,
+    })
 }
 
 /// `symbol NAME`
@@ -38,8 +35,9 @@ pub(crate) fn symbol(words: &[Word<'_>]) -> Result<Item, Malformed>
     ensures { result ≡ symbol_line words.now }
 {
     check_count(words, 2)?;
-    let name = name_at(words, 1)?;
-    Ok(Item::Symbol { name })
+    Ok(Item::Symbol {
+        name: field(words, 1)?,
+    })
 }
 
 /// `type NAME KIND`
@@ -47,9 +45,10 @@ pub(crate) fn ty(words: &[Word<'_>]) -> Result<Item, Malformed>
     ensures { result ≡ type_line words.now }
 {
     check_count(words, 3)?;
-    let name = name_at(words, 1)?;
-    let kind = type_kind_at(words, 2)?;
-    Ok(Item::Type { name, kind })
+    Ok(Item::Type {
+        name: field(words, 1)?,
+        kind: field(words, 2)?,
+    })
 }
 
 /// `const NAME TYPE`
@@ -57,16 +56,17 @@ pub(crate) fn constant(words: &[Word<'_>]) -> Result<Item, Malformed>
     ensures { result ≡ const_line words.now }
 {
     check_count(words, 3)?;
-    let name = name_at(words, 1)?;
-    let ty = TypeId(short_at(words, 2)?);
-    Ok(Item::Const { name, ty })
+    Ok(Item::Const {
+        name: field(words, 1)?,
+        ty: TypeId(field(words, 2)?),
+    })
 }
 
 /// A term of a type's own: FLAGS, CTOR and EXTR are `-`.
 fn bare_kind(words: &[Word<'_>], kind: TermKind) -> Result<TermKind, Malformed>
     ensures { result ≡ bare words.now kind }
 {
-    if is_dash(words, 3) && is_dash(words, 4) && is_dash(words, 5) {
+    if is_dash(word_at(words, 3)) && is_dash(word_at(words, 4)) && is_dash(word_at(words, 5)) {
         Ok(kind)
     } else {
         Err(Malformed::UnknownWord)
@@ -76,13 +76,10 @@ fn bare_kind(words: &[Word<'_>], kind: TermKind) -> Result<TermKind, Malformed>
 fn declared_kind(words: &[Word<'_>]) -> Result<TermKind, Malformed>
     ensures { result ≡ declared words.now }
 {
-    let flags = term_flags(text_at(words, 3))?;
-    let constructor_kind = constructor_at(words, 4)?;
-    let extractor_kind = extractor_kind(text_at(words, 5))?;
     Ok(TermKind::Decl {
-        flags,
-        constructor_kind,
-        extractor_kind,
+        flags: field(words, 3)?,
+        constructor_kind: field(words, 4)?,
+        extractor_kind: field(words, 5)?,
     })
 }
 
@@ -90,7 +87,7 @@ fn declared_kind(words: &[Word<'_>]) -> Result<TermKind, Malformed>
 fn term_kind(words: &[Word<'_>]) -> Result<TermKind, Malformed>
     ensures { result ≡ term_kind words.now }
 {
-    match term_tag_at(words, 2)? {
+    match field(words, 2)? {
         TermTag::Variant => bare_kind(words, TermKind::EnumVariant),
         TermTag::Struct => bare_kind(words, TermKind::Struct),
         TermTag::Decl => declared_kind(words),
@@ -102,10 +99,10 @@ pub(crate) fn term(words: &[Word<'_>]) -> Result<Item, Malformed>
     ensures { result ≡ term_line words.now }
 {
     check_least(words, 7)?;
-    let name = name_at(words, 1)?;
+    let name = field(words, 1)?;
     let kind = term_kind(words)?;
-    let ret_ty = TypeId(short_at(words, 6)?);
-    check_numbers(words, 7, SHORT)?;
+    let ret_ty = TypeId(field(words, 6)?);
+    check_each::<u16>(&words[7..])?;
     Ok(Item::Term {
         name,
         kind,

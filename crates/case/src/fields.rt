@@ -1,163 +1,177 @@
-// The words of a line, each by its number.
-ghost use Rattle.std.specs.Prelude.{◌≡◌, ◌≤◌, IfOk};
-ghost use Rattle.case.specs.Fields.{text, start, exactly, at_least, number, integer, dash, flag, name, number_fault, numbers, table, filled};
+// The words of a line, each by its number, and what a word may say.
+ghost use Rattle.std.specs.Prelude.{◌≡◌, ◌≤◌, length, Result, IfOk, OnOk};
+ghost use Rattle.words.specs.Cut.{Seen, seen};
+ghost use Rattle.items.specs.declared.faults.Malformed.{Malformed};
+ghost use Rattle.case.specs.Fields.{word, exactly, at_least, number, short, wide, long, integer, flag, table, dash, optional, name, each, filled};
 
 use items::Malformed;
 use records::refusal::TableId;
 use records::source::Name;
-use words::{NumberFault, Word};
+use words::Word;
 
-pub(crate) const SHORT: u64 = 65_535;
+/// What a single word may say.
+pub(crate) trait FromWord: Sized {
+    ghost reading: { Seen → Result Self Malformed };
 
-pub(crate) const WIDE: u64 = 4_294_967_295;
+    fn from_word(word: Word<'_>) -> Result<Self, Malformed>
+        ensures { result ≡ reading (seen word.entry) };
+}
 
 /// Word `i`; an empty one where the line is shorter.
-fn word_at<'a>(words: &[Word<'a>], i: usize) -> Word<'a>
-    ensures text { result.text.now ≡ text words.now i }
-    ensures start { result.start ≡ start words.now i }
+#[tactic(auto, unfolding(crate::specs::Fields::word))]
+pub(crate) fn word_at<'a>(words: &[Word<'a>], i: usize) -> Word<'a>
+    ensures { seen result ≡ word words.now i }
 {
-    if i < words.len() {
-        words[i]
-    } else {
-        Word { start: 0, text: "" }
-    }
+    words.get(i).copied().unwrap_or(Word { start: 0, text: "" })
 }
 
-pub(crate) fn text_at<'a>(words: &[Word<'a>], i: usize) -> &'a str
-    ensures { result.now ≡ text words.now i }
+/// What word `i` says.
+pub(crate) fn field<T: FromWord>(words: &[Word<'_>], i: usize) -> Result<T, Malformed>
+    ensures { result ≡ T.reading (word words.now i) }
 {
-    word_at(words, i).text
+    T::from_word(word_at(words, i))
 }
 
-/// Whether the line has `count` words, and not one more.
-pub(crate) fn check_count(words: &[Word<'_>], count: usize) -> Result<(), Malformed>
-    ensures { result ≡ exactly count words.now }
+/// Whether each word says something of the type.
+pub(crate) fn check_each<T: FromWord + Copy>(words: &[Word<'_>]) -> Result<(), Malformed>
+    ensures { result ≡ each T.reading words.now }
 {
-    if words.len() < count {
-        Err(Malformed::MissingWord)
-    } else if words.len() > count {
-        Err(Malformed::SurplusWord)
-    } else {
-        Ok(())
+    for word in words {
+        T::from_word(*word)?;
     }
+    Ok(())
 }
 
 /// Whether the line has `count` words or more.
+#[tactic(auto, unfolding(crate::specs::Fields::at_least))]
 pub(crate) fn check_least(words: &[Word<'_>], count: usize) -> Result<(), Malformed>
-    ensures { result ≡ at_least count words.now }
+    ensures said { result ≡ at_least count words.now }
+    ensures enough { OnOk result (count ≤ length words.now) }
 {
     if words.len() < count {
-        Err(Malformed::MissingWord)
-    } else {
-        Ok(())
+        return Err(Malformed::MissingWord);
     }
+    Ok(())
 }
 
-fn malformed(fault: NumberFault) -> Malformed
-    ensures { result ≡ number_fault fault }
+/// Whether the line has `count` words, and not one more.
+#[tactic(auto, unfolding(crate::specs::Fields::at_least, crate::specs::Fields::exactly))]
+pub(crate) fn check_count(words: &[Word<'_>], count: usize) -> Result<(), Malformed>
+    ensures { result ≡ exactly count words.now }
 {
-    match fault {
-        NumberFault::NotANumber => Malformed::NotANumber,
-        NumberFault::DoesNotFit => Malformed::DoesNotFit,
-    }
-}
-
-pub(crate) fn number_in(text: &str, max: u64) -> Result<u64, Malformed>
-    ensures value { result ≡ number max text.now }
-    ensures bound { IfOk result (λ n. n ≤ max) }
-{
-    match words::number(text, max) {
-        Ok(n) => Ok(n),
-        Err(fault) => Err(malformed(fault)),
-    }
-}
-
-pub(crate) fn wide_in(text: &str) -> Result<u32, Malformed>
-    ensures { result ≡ number 4294967295 text.now }
-{
-    Ok(number_in(text, WIDE)? as u32)
-}
-
-pub(crate) fn wide_at(words: &[Word<'_>], i: usize) -> Result<u32, Malformed>
-    ensures { result ≡ number 4294967295 (text words.now i) }
-{
-    wide_in(text_at(words, i))
-}
-
-pub(crate) fn short_at(words: &[Word<'_>], i: usize) -> Result<u16, Malformed>
-    ensures { result ≡ number 65535 (text words.now i) }
-{
-    Ok(number_in(text_at(words, i), SHORT)? as u16)
-}
-
-pub(crate) fn long_at(words: &[Word<'_>], i: usize) -> Result<u64, Malformed>
-    ensures { result ≡ number 18446744073709551615 (text words.now i) }
-{
-    number_in(text_at(words, i), u64::MAX)
-}
-
-pub(crate) fn integer_at(words: &[Word<'_>], i: usize) -> Result<i64, Malformed>
-    ensures { result ≡ integer (text words.now i) }
-{
-    match words::integer(text_at(words, i)) {
-        Ok(n) => Ok(n),
-        Err(fault) => Err(malformed(fault)),
-    }
-}
-
-pub(crate) fn flag_at(words: &[Word<'_>], i: usize) -> Result<bool, Malformed>
-    ensures { result ≡ flag (text words.now i) }
-{
-    let n = number_in(text_at(words, i), 1)?;
-    Ok(n == 1)
-}
-
-pub(crate) fn table_at(words: &[Word<'_>], i: usize) -> Result<TableId, Malformed>
-    ensures { result ≡ table (text words.now i) }
-{
-    let n = number_in(text_at(words, i), 12)?;
-    Ok(TableId::ALL[n as usize])
-}
-
-/// Whether word `i` is a dash, which stands for nothing.
-pub(crate) fn is_dash(words: &[Word<'_>], i: usize) -> bool
-    ensures { result ≡ dash words.now i }
-{
-    text_at(words, i) == "-"
-}
-
-pub(crate) fn name_at(words: &[Word<'_>], i: usize) -> Result<Name, Malformed>
-    ensures { result ≡ name words.now i }
-{
-    let word = word_at(words, i);
-    let len = word.text.len();
-    if word.start > WIDE as usize || len > WIDE as usize {
-        return Err(Malformed::FarName);
-    }
-    Ok(Name {
-        start: word.start as u32,
-        len: len as u32,
-    })
-}
-
-/// Whether each word from number `from` on is a number of at most `max`.
-pub(crate) fn check_numbers(words: &[Word<'_>], from: usize, max: u64) -> Result<(), Malformed>
-    ensures { result ≡ numbers max from words.now }
-{
-    for i in from..words.len() {
-        number_in(text_at(words, i), max)?;
+    check_least(words, count)?;
+    if words.len() > count {
+        return Err(Malformed::SurplusWord);
     }
     Ok(())
 }
 
 /// Whether no word is empty.
+#[tactic(auto, unfolding(crate::specs::Fields::filled))]
 pub(crate) fn check_filled(words: &[Word<'_>]) -> Result<(), Malformed>
     ensures { result ≡ filled words.now }
 {
-    for word in words {
-        if word.text.is_empty() {
-            return Err(Malformed::EmptyWord);
-        }
+    if words.iter().any(|word| word.text.is_empty()) {
+        return Err(Malformed::EmptyWord);
     }
     Ok(())
+}
+
+#[tactic(auto, unfolding(crate::specs::Fields::number))]
+fn number_in(text: &str, max: u64) -> Result<u64, Malformed>
+    ensures value { result ≡ number max text.now }
+    ensures bound { IfOk result (λ n. n ≤ max) }
+{
+    Ok(words::number(text, max)?)
+}
+
+impl FromWord for u16 {
+    ghost reading = { short };
+
+    fn from_word(word: Word<'_>) -> Result<u16, Malformed> {
+        Ok(number_in(word.text, u64::from(u16::MAX))? as u16)
+    }
+}
+
+/// A number of 32 bits, also as a part of a word.
+pub(crate) fn wide_in(text: &str) -> Result<u32, Malformed>
+    ensures { result ≡ number 4294967295 text.now }
+{
+    Ok(number_in(text, u64::from(u32::MAX))? as u32)
+}
+
+impl FromWord for u32 {
+    ghost reading = { wide };
+
+    fn from_word(word: Word<'_>) -> Result<u32, Malformed> {
+        wide_in(word.text)
+    }
+}
+
+impl FromWord for u64 {
+    ghost reading = { long };
+
+    fn from_word(word: Word<'_>) -> Result<u64, Malformed> {
+        number_in(word.text, u64::MAX)
+    }
+}
+
+impl FromWord for i64 {
+    ghost reading = { integer };
+
+    #[tactic(auto, unfolding(crate::specs::Fields::integer))]
+    fn from_word(word: Word<'_>) -> Result<i64, Malformed> {
+        Ok(words::integer(word.text)?)
+    }
+}
+
+impl FromWord for bool {
+    ghost reading = { flag };
+
+    #[tactic(auto, unfolding(crate::specs::Fields::flag))]
+    fn from_word(word: Word<'_>) -> Result<bool, Malformed> {
+        Ok(number_in(word.text, 1)? == 1)
+    }
+}
+
+impl FromWord for TableId {
+    ghost reading = { table };
+
+    #[tactic(auto, unfolding(crate::specs::Fields::table))]
+    fn from_word(word: Word<'_>) -> Result<TableId, Malformed> {
+        let n = number_in(word.text, 12)?;
+        Ok(TableId::ALL[n as usize])
+    }
+}
+
+/// The place of the word in the line.
+impl FromWord for Name {
+    ghost reading = { name };
+
+    #[tactic(auto, unfolding(crate::specs::Fields::name))]
+    fn from_word(word: Word<'_>) -> Result<Name, Malformed> {
+        match (u32::try_from(word.start), u32::try_from(word.text.len())) {
+            (Ok(start), Ok(len)) => Ok(Name { start, len }),
+            _ => Err(Malformed::FarName),
+        }
+    }
+}
+
+#[tactic(auto, unfolding(crate::specs::Fields::dash))]
+pub(crate) fn is_dash(word: Word<'_>) -> bool
+    ensures { result ≡ dash (seen word.entry) }
+{
+    word.text == "-"
+}
+
+/// A dash stands for nothing.
+impl<T: FromWord> FromWord for Option<T> {
+    ghost reading = { optional T.reading };
+
+    fn from_word(word: Word<'_>) -> Result<Option<T>, Malformed> {
+        if is_dash(word) {
+            return Ok(None);
+        }
+        T::from_word(word).map(Some)
+    }
 }

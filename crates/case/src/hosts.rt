@@ -2,10 +2,8 @@
 ghost use Rattle.std.specs.Prelude.{◌≡◌};
 ghost use Rattle.case.specs.Lines.{host_line, row_line, code_line, make_line, lit_line, sign_line, sign_flags, literal_by};
 
-use crate::fields::{
-    SHORT, check_count, check_least, check_numbers, flag_at, integer_at, long_at, short_at, text_at,
-};
-use crate::kinds::{LiteralKind, host_kind_at, literal_kind_at, row_kind_at, term_flags};
+use crate::fields::{check_count, check_each, check_least, field};
+use crate::kinds::LiteralKind;
 use items::{Item, Literal, Malformed};
 use records::env::TermFlags;
 use records::ids::{Sym, TermId, TypeId};
@@ -16,8 +14,9 @@ pub(crate) fn host(words: &[Word<'_>]) -> Result<Item, Malformed>
     ensures { result ≡ host_line words.now }
 {
     check_count(words, 2)?;
-    let kind = host_kind_at(words, 1)?;
-    Ok(Item::Host { kind })
+    Ok(Item::Host {
+        kind: field(words, 1)?,
+    })
 }
 
 /// `row TERM KIND`
@@ -25,9 +24,10 @@ pub(crate) fn row(words: &[Word<'_>]) -> Result<Item, Malformed>
     ensures { result ≡ row_line words.now }
 {
     check_count(words, 3)?;
-    let term = TermId(short_at(words, 1)?);
-    let row = row_kind_at(words, 2)?;
-    Ok(Item::Row { term, row })
+    Ok(Item::Row {
+        term: TermId(field(words, 1)?),
+        row: field(words, 2)?,
+    })
 }
 
 /// `code CODE TYPE`
@@ -35,9 +35,10 @@ pub(crate) fn code(words: &[Word<'_>]) -> Result<Item, Malformed>
     ensures { result ≡ code_line words.now }
 {
     check_count(words, 3)?;
-    let code = long_at(words, 1)?;
-    let ty = TypeId(short_at(words, 2)?);
-    Ok(Item::Code { code, ty })
+    Ok(Item::Code {
+        code: field(words, 1)?,
+        ty: TypeId(field(words, 2)?),
+    })
 }
 
 /// `make TERM CODE ARG...`
@@ -45,9 +46,9 @@ pub(crate) fn make(words: &[Word<'_>]) -> Result<Item, Malformed>
     ensures { result ≡ make_line words.now }
 {
     check_least(words, 3)?;
-    let term = TermId(short_at(words, 1)?);
-    let code = long_at(words, 2)?;
-    check_numbers(words, 3, u64::MAX)?;
+    let term = TermId(field(words, 1)?);
+    let code = field(words, 2)?;
+    check_each::<u64>(&words[3..])?;
     Ok(Item::Make {
         term,
         code,
@@ -60,13 +61,13 @@ fn read_literal(words: &[Word<'_>], kind: LiteralKind) -> Result<Literal, Malfor
 {
     match kind {
         LiteralKind::Bool => Ok(Literal::Bool {
-            val: flag_at(words, 3)?,
+            val: field(words, 3)?,
         }),
         LiteralKind::Int => Ok(Literal::Int {
-            val: integer_at(words, 3)?,
+            val: field(words, 3)?,
         }),
         LiteralKind::Const => Ok(Literal::Const {
-            val: Sym(short_at(words, 3)?),
+            val: Sym(field(words, 3)?),
         }),
     }
 }
@@ -76,18 +77,20 @@ pub(crate) fn lit(words: &[Word<'_>]) -> Result<Item, Malformed>
     ensures { result ≡ lit_line words.now }
 {
     check_count(words, 5)?;
-    let ty = TypeId(short_at(words, 1)?);
-    let kind = literal_kind_at(words, 2)?;
-    let literal = read_literal(words, kind)?;
-    let code = long_at(words, 4)?;
-    Ok(Item::Lit { ty, literal, code })
+    let ty = TypeId(field(words, 1)?);
+    let kind = field(words, 2)?;
+    Ok(Item::Lit {
+        ty,
+        literal: read_literal(words, kind)?,
+        code: field(words, 4)?,
+    })
 }
 
 /// Flags out of `p` and `o` alone: a host has no others.
 fn read_sign_flags(words: &[Word<'_>]) -> Result<TermFlags, Malformed>
     ensures { result ≡ sign_flags words.now }
 {
-    let flags = term_flags(text_at(words, 2))?;
+    let flags: TermFlags = field(words, 2)?;
     if flags.multi || flags.rec {
         return Err(Malformed::UnknownWord);
     }
@@ -99,10 +102,10 @@ pub(crate) fn sign(words: &[Word<'_>]) -> Result<Item, Malformed>
     ensures { result ≡ sign_line words.now }
 {
     check_least(words, 4)?;
-    let term = TermId(short_at(words, 1)?);
+    let term = TermId(field(words, 1)?);
     let flags = read_sign_flags(words)?;
-    let ret_ty = TypeId(short_at(words, 3)?);
-    check_numbers(words, 4, SHORT)?;
+    let ret_ty = TypeId(field(words, 3)?);
+    check_each::<u16>(&words[4..])?;
     Ok(Item::Sign {
         term,
         pure: flags.pure,

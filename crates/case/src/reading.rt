@@ -4,9 +4,9 @@ ghost use Rattle.case.specs.Format.{line, item};
 
 use crate::calls::{alone, read_part, run};
 use crate::environment::{constant, expand, limit, symbol, term, ty};
-use crate::fields::check_filled;
+use crate::fields::{check_filled, field};
 use crate::hosts::{code, host, lit, make, row, sign};
-use crate::kinds::{Keyword, keyword_at};
+use crate::kinds::Keyword;
 use crate::sources::source;
 use items::{Item, Malformed};
 use words::Word;
@@ -47,6 +47,5 @@ pub fn read(words: &[Word<'_>]) -> Result<Item, Malformed>
     ensures { result ≡ item words.now }
 {
     check_filled(words)?;
-    let keyword = keyword_at(words, 0)?;
-    read_line(words, keyword)
+    read_line(words, field(words, 0)?)
 }

@@ -1,5 +1,5 @@
 -- The order of lines: the environment before the first call, and a host's rows between the host and the next call.
-use Rattle.std.specs.Prelude.{true, cond, Some, None, Ok, Err, Option, Result}
+use Rattle.std.specs.Prelude.{true, if◌then◌else◌, Some, None, Ok, Err, Option, Result}
 use Rattle.items.specs.declared.faults.Malformed.{Malformed}
 use Rattle.items.specs.declared.faults.Malformed.TheVariants as malformed
 use Rattle.items.specs.declared.items.HostKind.{HostKind}
@@ -46,7 +46,7 @@ signs (Some kind) p = Ok p
 
 -- the place behind a line, if it may stand there
 abbrev pub next : Place → Class → Result Place Malformed
-next p class.Environment = cond p.called (Err malformed.AfterCall) (Ok p)
+next p class.Environment = if p.called then Err malformed.AfterCall else Ok p
 next p (class.Host kind) = Ok (record { called = p.called; host = Some kind })
 next p (class.Row wanted) = takes wanted p.host p
 next p class.Sign = signs p.host p

@@ -1,7 +1,0 @@
-use Rattle.std.proofs.Common.{rules}
-use Rattle.case.specs.Kinds.{UnknownWord, host_kinds}
-use Rattle.case.proofs.Tables.{missing}
-use Rattle.case.proofs.kinds.find_host_kind.Goals as goal
-
-pub returns-in_default : goal.returns-in_default
-returns-in_default c = missing UnknownWord host_kinds c.args.text.now (search rules)

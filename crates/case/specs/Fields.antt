@@ -64,6 +64,7 @@ table w = bind (number 12 w.1) (λ n. Ok (slice_index_or tables n Text))
 unfoldable pub dash : Seen → Bool
 dash w = bytes_eq w.1 (codes "-")
 
+-- nothing at a dash, else what the word says
 abbrev pub optional : {A : Type 0} → (Seen → Result A Malformed) → Seen → Result (Option A) Malformed
 optional f w = if dash w then Ok None else bind (f w) (λ a. Ok (Some a))
 

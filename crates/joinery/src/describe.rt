@@ -1,4 +1,5 @@
 // The environment in readable lines.
+use itertools::Itertools;
 use records::env::{ConstructorKind, ExtractorKind, Term, TermKind, TypeKind};
 use records::ids::{Sym, TypeId};
 use records::source::{Name, Node, Part, Pattern};
@@ -8,31 +9,20 @@ use tables::Tables;
 
 /// The bytes of a name as text.
 fn name_text(tables: &Tables, name: Name) -> &str {
-    let start = name.start as usize;
-    let end = start + name.len as usize;
-    match tables.text.as_slice().get(start..end) {
-        Some(bytes) => match std::str::from_utf8(bytes) {
-            Ok(text) => text,
-            Err(_) => "?",
-        },
-        None => "?",
-    }
+    std::str::from_utf8(name.bytes(tables.text.as_slice())).unwrap_or("?")
 }
 
 fn symbol_text(tables: &Tables, sym: Sym) -> &str {
-    match tables.symbols.get(sym.0 as usize) {
-        Some(symbol) => name_text(tables, symbol.name),
-        None => "?",
-    }
+    let symbol = tables.symbols.get(sym.0 as usize);
+    symbol.map_or("?", |symbol| name_text(tables, symbol.name))
 }
 
 fn type_text(tables: &Tables, ty: TypeId) -> &str {
-    match tables.types.get(ty.0 as usize) {
-        Some(ty) => symbol_text(tables, ty.name),
-        None => "?",
-    }
+    let ty = tables.types.get(ty.0 as usize);
+    ty.map_or("?", |ty| symbol_text(tables, ty.name))
 }
 
+/// A word for each kind. `Display` for another crate's type would take a wrapper, and that is no plainer.
 fn kind_text(kind: TypeKind) -> &'static str {
     match kind {
         TypeKind::Bool => "bool",
@@ -44,16 +34,13 @@ fn kind_text(kind: TypeKind) -> &'static str {
 }
 
 fn signature(heap: Global, tables: &Tables, term: &Term) -> Result<String, AllocError> {
-    let mut text = String::from_str(heap, "(")?;
-    for (i, ty) in term.arg_tys.iter().enumerate() {
-        if i > 0 {
-            text.push_str(", ")?;
-        }
-        text.push_str(type_text(tables, *ty))?;
-    }
-    text.push_str(") -> ")?;
-    text.push_str(type_text(tables, term.ret_ty))?;
-    Ok(text)
+    let args = term
+        .arg_tys
+        .iter()
+        .map(|ty| type_text(tables, *ty))
+        .join(heap, ", ")?;
+    let ret = type_text(tables, term.ret_ty);
+    format!(in heap; "({args}) -> {ret}")
 }
 
 /// What can be done with a term, after its signature.
@@ -106,20 +93,17 @@ fn template_of(kind: TermKind) -> Option<Part> {
 }
 
 /// The records of a template, root last.
-fn template(rt: &HostRuntime, tables: &Tables, part: Part) -> io::Result<()> {
-    for i in part.start..part.end {
-        if let Some(source) = tables.source.get(i as usize) {
-            let text = node_text(rt.alloc(), tables, source.node)?;
-            let size = source.size;
-            println!(rt; "    source {i}: {text}, size {size}")?;
-        }
+fn template(rt: &(impl Print + AllocGlobal), tables: &Tables, part: Part) -> io::Result<()> {
+    let records = part.of(tables.source.as_slice());
+    for (i, source) in (part.start..part.end).zip(records) {
+        let text = node_text(rt.alloc(), tables, source.node)?;
+        println!(rt; "    source {i}: {text}, size {}", source.size)?;
     }
     Ok(())
 }
 
-pub(crate) fn environment(rt: &HostRuntime, tables: &Tables) -> io::Result<()> {
-    let symbols = tables.symbols.len();
-    println!(rt; "{symbols} symbols")?;
+pub(crate) fn environment(rt: &(impl Print + AllocGlobal), tables: &Tables) -> io::Result<()> {
+    println!(rt; "{} symbols", tables.symbols.len())?;
     for (i, ty) in tables.types.as_slice().iter().enumerate() {
         let name = symbol_text(tables, ty.name);
         let kind = kind_text(ty.kind);

@@ -3,27 +3,19 @@ use records::env::{Constant, Symbol, Term, TermKind, Type, TypeKind};
 use records::ids::{Sym, TypeId};
 use records::refusal::Refusal;
 use records::source::{Name, Node, Pos, Source};
-use std::alloc::{AllocError, AllocFailed, Global};
+use std::alloc::{AllocError, Global};
+use std::num::TryFromIntError;
 use table::Full;
 use tables::{Limits, Tables};
+use thiserror::Error;
 
 /// Why tables could not be made.
-#[derive(Clone, Copy)]
+#[derive(Clone, Copy, Debug, Error)]
 pub(crate) enum Stop {
-    NoMemory,
+    #[error("no memory for the tables")]
+    NoMemory(#[from] AllocError),
+    #[error("a table is too small for the environment")]
     Full,
-}
-
-impl From<AllocError> for Stop {
-    fn from(_error: AllocError) -> Stop {
-        Stop::NoMemory
-    }
-}
-
-impl<T: Drop> From<AllocFailed<T>> for Stop {
-    fn from(_refused: AllocFailed<T>) -> Stop {
-        Stop::NoMemory
-    }
 }
 
 impl From<Full> for Stop {
@@ -38,11 +30,10 @@ impl From<Refusal> for Stop {
     }
 }
 
-/// A number of a record as it is written down; none where it is too large.
-fn number(n: usize) -> Result<u16, Stop> {
-    match u16::try_from(n) {
-        Ok(n) => Ok(n),
-        Err(_) => Err(Stop::Full),
+/// The number of the next record is larger than any table.
+impl From<TryFromIntError> for Stop {
+    fn from(_error: TryFromIntError) -> Stop {
+        Stop::Full
     }
 }
 
@@ -70,7 +61,7 @@ impl Builder {
     }
 
     pub(crate) fn symbol_at(&mut self, name: Name) -> Result<Sym, Stop> {
-        let sym = Sym(number(self.tables.symbols.len())?);
+        let sym = Sym(u16::try_from(self.tables.symbols.len())?);
         self.tables.add_symbol(Symbol { name })?;
         Ok(sym)
     }
@@ -81,7 +72,7 @@ impl Builder {
     }
 
     pub(crate) fn type_at(&mut self, name: Sym, kind: TypeKind) -> Result<TypeId, Stop> {
-        let ty = TypeId(number(self.tables.types.len())?);
+        let ty = TypeId(u16::try_from(self.tables.types.len())?);
         self.tables.add_type(Type { name, kind })?;
         Ok(ty)
     }

@@ -15,9 +15,7 @@ fn define(
     outer: &[u8],
     term: &[u8],
 ) -> Result<Part, Stop> {
-    let Ok(start) = u32::try_from(builder.tables.source.len()) else {
-        return Err(Stop::Full);
-    };
+    let start = u32::try_from(builder.tables.source.len())?;
     let inner = builder.name(inner)?;
     let outer = builder.name(outer)?;
     let term = builder.name(term)?;
@@ -53,7 +51,7 @@ impl Definitions {
     }
 }
 
-fn register(rt: &HostRuntime, opening: &mut Opening, what: &str, part: Part) -> anyhow::Result<()> {
+fn register(rt: &impl Print, opening: &mut Opening, what: &str, part: Part) -> anyhow::Result<()> {
     print!(rt; "{what}: ")?;
     match opening.converter(part) {
         Ok(()) => println!(rt; "accepted")?,
@@ -62,49 +60,38 @@ fn register(rt: &HostRuntime, opening: &mut Opening, what: &str, part: Part) -> 
     Ok(())
 }
 
-/// Parts of the source list that are no converter definitions.
-fn register_others(rt: &HostRuntime, opening: &mut Opening, part: Part) -> anyhow::Result<()> {
+/// Parts of the source list that are no converter definitions, by a part that is one.
+fn no_definitions(part: Part) -> [(&'static str, Part); 4] {
     let Part { start, end } = part;
-    let empty = Part { start, end: start };
-    register(rt, opening, "an empty part", empty)?;
-    let template = Part { start: 0, end: 2 };
-    register(rt, opening, "a template", template)?;
-    let torn = Part {
-        start: start.saturating_add(1),
-        end,
-    };
-    register(rt, opening, "a definition without its first name", torn)?;
-    let beyond = Part { start, end: 1_000 };
-    register(rt, opening, "a part past the source list", beyond)
+    let torn = start.saturating_add(1);
+    [
+        ("an empty part", Part { start, end: start }),
+        ("a template", Part { start: 0, end: 2 }),
+        (
+            "a definition without its first name",
+            Part { start: torn, end },
+        ),
+        ("a part past the source list", Part { start, end: 1_000 }),
+    ]
 }
 
 /// All converter calls, closing, and what is in the tables then.
 pub(crate) fn run(
-    rt: &HostRuntime,
+    rt: &(impl Print + AllocGlobal),
     mut opening: Opening,
     definitions: Definitions,
 ) -> anyhow::Result<()> {
-    register(rt, &mut opening, "Len to Board by edge", definitions.edge)?;
-    register(rt, &mut opening, "Len to Board by twin", definitions.again)?;
-    register(
-        rt,
-        &mut opening,
-        "Plank to Board by edge",
-        definitions.unknown_inner,
-    )?;
-    register(
-        rt,
-        &mut opening,
-        "Len to Plank by edge",
-        definitions.unknown_outer,
-    )?;
-    register(
-        rt,
-        &mut opening,
-        "Board to Len by saw",
-        definitions.unknown_term,
-    )?;
-    register_others(rt, &mut opening, definitions.unknown_term)?;
+    let calls = [
+        ("Len to Board by edge", definitions.edge),
+        ("Len to Board by twin", definitions.again),
+        ("Plank to Board by edge", definitions.unknown_inner),
+        ("Len to Plank by edge", definitions.unknown_outer),
+        ("Board to Len by saw", definitions.unknown_term),
+    ];
+    let others = no_definitions(definitions.unknown_term);
+    for (what, part) in calls.into_iter().chain(others) {
+        register(rt, &mut opening, what, part)?;
+    }
     let ruling = opening.close();
     println!(rt; "closed")?;
     describe::results(rt, ruling.tables())?;

@@ -8,61 +8,49 @@ use tables::Tables;
 
 /// The bytes of a name as text.
 fn name_text(tables: &Tables, name: Name) -> &str {
-    match std::str::from_utf8(name.bytes(tables.text.as_slice())) {
-        Ok(text) => text,
-        Err(_) => "?",
-    }
+    std::str::from_utf8(name.bytes(tables.text.as_slice())).unwrap_or("?")
 }
 
 fn symbol_text(tables: &Tables, sym: Sym) -> &str {
-    match tables.symbols.get(sym.0 as usize) {
-        Some(symbol) => name_text(tables, symbol.name),
-        None => "?",
-    }
+    let symbol = tables.symbols.get(sym.0 as usize);
+    symbol.map_or("?", |symbol| name_text(tables, symbol.name))
 }
 
 fn type_text(tables: &Tables, ty: TypeId) -> &str {
-    match tables.types.get(ty.0 as usize) {
-        Some(ty) => symbol_text(tables, ty.name),
-        None => "?",
-    }
+    let ty = tables.types.get(ty.0 as usize);
+    ty.map_or("?", |ty| symbol_text(tables, ty.name))
 }
 
 fn term_text(tables: &Tables, term: TermId) -> &str {
-    match tables.terms.get(term.0 as usize) {
-        Some(term) => symbol_text(tables, term.name),
-        None => "?",
-    }
+    let term = tables.terms.get(term.0 as usize);
+    term.map_or("?", |term| symbol_text(tables, term.name))
 }
 
 /// What is wrong with a converter definition.
 fn cause_text(heap: Global, tables: &Tables, cause: Cause) -> Result<String, AllocError> {
+    let text = |name| name_text(tables, name);
     match cause {
         Cause::UnknownInnerType { name } => {
-            let name = name_text(tables, name);
-            format!(in heap; "unknown inner type {name}")
+            format!(in heap; "unknown inner type {}", text(name))
         }
         Cause::UnknownOuterType { name } => {
-            let name = name_text(tables, name);
-            format!(in heap; "unknown outer type {name}")
+            format!(in heap; "unknown outer type {}", text(name))
         }
-        Cause::UnknownConverterTerm { name } => {
-            let name = name_text(tables, name);
-            format!(in heap; "unknown term {name}")
-        }
+        Cause::UnknownConverterTerm { name } => format!(in heap; "unknown term {}", text(name)),
         Cause::DuplicateConverter { inner, outer } => {
-            let inner = name_text(tables, inner);
-            let outer = name_text(tables, outer);
-            format!(in heap; "a second converter from {inner} to {outer}")
+            format!(in heap;
+                "a second converter from {} to {}",
+                text(inner),
+                text(outer)
+            )
         }
         _ => String::from_str(heap, "another fault"),
     }
 }
 
 /// What elaboration has written so far.
-pub(crate) fn results(rt: &HostRuntime, tables: &Tables) -> io::Result<()> {
-    let symbols = tables.symbols.len();
-    println!(rt; "{symbols} symbols")?;
+pub(crate) fn results(rt: &(impl Print + AllocGlobal), tables: &Tables) -> io::Result<()> {
+    println!(rt; "{} symbols", tables.symbols.len())?;
     for converter in tables.converters.as_slice() {
         let inner = type_text(tables, converter.inner_ty);
         let outer = type_text(tables, converter.outer_ty);

@@ -27,7 +27,7 @@ const LIMITS: Limits = Limits {
     scopes: 16,
 };
 
-pub(crate) const NO_FLAGS: TermFlags = TermFlags {
+const NO_FLAGS: TermFlags = TermFlags {
     pure: false,
     multi: false,
     partial: false,
@@ -36,9 +36,21 @@ pub(crate) const NO_FLAGS: TermFlags = TermFlags {
 
 const PURE: TermFlags = TermFlags {
     pure: true,
-    multi: false,
-    partial: false,
-    rec: false,
+    ..NO_FLAGS
+};
+
+/// A term that rules construct.
+pub(crate) const BY_RULES: TermKind = TermKind::Decl {
+    flags: NO_FLAGS,
+    constructor_kind: Some(ConstructorKind::Internal),
+    extractor_kind: None,
+};
+
+/// A pure term that the host constructs and extracts.
+const BY_HOST: TermKind = TermKind::Decl {
+    flags: PURE,
+    constructor_kind: Some(ConstructorKind::External),
+    extractor_kind: Some(ExtractorKind::External),
 };
 
 /// A pure term without constructor whose extractor is the template.
@@ -50,29 +62,9 @@ pub(crate) fn templated(template: Part) -> TermKind {
     }
 }
 
-/// A term that rules construct.
-pub(crate) fn by_rules() -> TermKind {
-    TermKind::Decl {
-        flags: NO_FLAGS,
-        constructor_kind: Some(ConstructorKind::Internal),
-        extractor_kind: None,
-    }
-}
-
-/// A pure term that the host constructs and extracts.
-fn by_host() -> TermKind {
-    TermKind::Decl {
-        flags: PURE,
-        constructor_kind: Some(ConstructorKind::External),
-        extractor_kind: Some(ExtractorKind::External),
-    }
-}
-
 /// The template `(edge <argument index>)`, laid out at the end of the source list.
 pub(crate) fn edge_template(builder: &mut Builder, index: u16) -> Result<Part, Stop> {
-    let Ok(start) = u32::try_from(builder.tables.source.len()) else {
-        return Err(Stop::Full);
-    };
+    let start = u32::try_from(builder.tables.source.len())?;
     let sym = builder.name(b"edge")?;
     builder.source(Node::Pattern(Pattern::MacroArg { index }), 1, 6)?;
     builder.source(Node::Pattern(Pattern::Term { sym }), 2, 0)?;
@@ -86,8 +78,8 @@ pub(crate) fn joinery(heap: Global) -> Result<Builder, Stop> {
     let mut builder = Builder::new(heap, &LIMITS)?;
     builder.ty(b"Len", TypeKind::Primitive)?;
     builder.ty(b"Board", TypeKind::Primitive)?;
-    builder.term(b"join", &[BOARD, BOARD], BOARD, by_rules())?;
-    builder.term(b"edge", &[LEN], BOARD, by_host())?;
+    builder.term(b"join", &[BOARD, BOARD], BOARD, BY_RULES)?;
+    builder.term(b"edge", &[LEN], BOARD, BY_HOST)?;
     let template = edge_template(&mut builder, 0)?;
     builder.term(b"twin", &[LEN], BOARD, templated(template))?;
     Ok(builder)

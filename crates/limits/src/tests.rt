@@ -11,33 +11,30 @@ use tables::{Limits, Tables};
 
 const NOWHERE: Pos = Pos { file: 0, offset: 0 };
 
-/// What the tables of a test need to hold it. A helper answers, and the test fails: so no helper may abort.
-fn check(holds: bool) -> Result<(), Fail> {
-    if holds {
-        Ok(())
-    } else {
-        Err(Fail::new("a table has no place for what the test adds"))
-    }
+/// The tables of a test have to hold it. A helper answers, and the test fails: so no helper may abort.
+fn no_place<E: Drop>(_error: E) -> Fail {
+    Fail::new("a table has no place for what the test adds")
 }
 
 /// The built-in environment, with room for all that an elaboration may hold.
 fn environment(heap: Global) -> Result<Tables, Fail> {
     let mut tables = Tables::new(heap, &Limits::MAX, true)?;
-    check(tables.add_builtins().is_ok())?;
+    tables.add_builtins().map_err(no_place)?;
     Ok(tables)
 }
 
 fn add_symbol(tables: &mut Tables, bytes: &[u8]) -> Result<(), Fail> {
-    let Ok(name) = tables.add_name(bytes) else {
-        return Err(Fail::new("the text is full"));
-    };
-    check(tables.add_symbol(Symbol { name }).is_ok())
+    let name = tables.add_name(bytes).map_err(no_place)?;
+    tables.add_symbol(Symbol { name }).map_err(no_place)
 }
 
 fn add_pattern(tables: &mut Tables, pattern: Pattern, size: u16) -> Result<(), Fail> {
     let node = Node::Pattern(pattern);
     let pos = NOWHERE;
-    check(tables.source.push(Source { node, size, pos }).is_ok())
+    tables
+        .source
+        .push(Source { node, size, pos })
+        .map_err(no_place)
 }
 
 /// A term named by symbol 13 whose template is the whole source list.
@@ -62,17 +59,15 @@ fn add_template_term(heap: Global, tables: &mut Tables) -> Result<(), Fail> {
             extractor_kind: Some(ExtractorKind::Internal { template }),
         },
     };
-    check(tables.terms.push(term).is_ok())
+    tables.terms.push(term).map_err(no_place)
 }
 
 /// The table and the record that opening is refused with, if it is.
 fn refused(tables: Tables) -> Option<(usize, usize)> {
-    match open(tables) {
-        Ok(_) => None,
-        Err((_tables, refusal)) => match refusal.report().values {
-            Values::One(_) => None,
-            Values::Two(table, record) => Some((table, record)),
-        },
+    let (_tables, refusal) = open(tables).err()?;
+    match refusal.report().values {
+        Values::One(_) => None,
+        Values::Two(table, record) => Some((table, record)),
     }
 }
 

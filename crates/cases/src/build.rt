@@ -16,36 +16,20 @@ pub(crate) fn add_name(tables: &mut Tables, line: &[u8], name: Name) -> Result<N
     Ok(tables.add_name(name.bytes(line))?)
 }
 
-fn symbol_number(n: usize) -> Result<Sym, Stop> {
-    match u16::try_from(n) {
-        Ok(n) => Ok(Sym(n)),
-        Err(_) => Err(Stop::Full),
-    }
-}
-
 /// The symbol of a name of the line, which is added if there is none yet. The name goes into the text in any case.
 fn intern(tables: &mut Tables, line: &[u8], name: Name) -> Result<Sym, Stop> {
     let name = add_name(tables, line, name)?;
-    match symbol(tables, name) {
-        Some(sym) => Ok(sym),
-        None => {
-            let sym = symbol_number(tables.symbols.len())?;
-            tables.add_symbol(Symbol { name })?;
-            Ok(sym)
-        }
+    if let Some(sym) = symbol(tables, name) {
+        return Ok(sym);
     }
+    let sym = Sym(u16::try_from(tables.symbols.len())?);
+    tables.add_symbol(Symbol { name })?;
+    Ok(sym)
 }
 
-/// The types that the words from number `from` on name.
-fn read_types(heap: Global, words: &[Word<'_>], from: usize) -> Result<Vec<TypeId>, Stop> {
-    let mut types = Vec::new(heap);
-    for word in words.iter().skip(from) {
-        match number(word.text, 65_535) {
-            Ok(n) => types.push(TypeId(n as u16))?,
-            Err(_) => return Err(Stop::Malformed(Malformed::NotANumber)),
-        }
-    }
-    Ok(types)
+fn read_type(word: &Word<'_>) -> Result<TypeId, Stop> {
+    let n = number(word.text, 65_535).map_err(|_| Malformed::NotANumber)?;
+    Ok(TypeId(n as u16))
 }
 
 fn add_term(
@@ -58,7 +42,12 @@ fn add_term(
     args: usize,
 ) -> Result<(), Stop> {
     let name = intern(tables, line.bytes, name)?;
-    let arg_tys = read_types(heap, line.words.as_slice(), args)?;
+    let arg_tys = line
+        .words
+        .iter()
+        .skip(args)
+        .map(read_type)
+        .try_collect(heap)?;
     tables.terms.push(Term {
         name,
         arg_tys,

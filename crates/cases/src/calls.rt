@@ -2,11 +2,10 @@
 use crate::build::add;
 use crate::dump::dump;
 use crate::lines::Line;
-use crate::output::Output;
 use crate::stop::Stop;
 use elaborate::{Opening, Ruling, open};
 use items::Item;
-use records::refusal::{Refusal, Values};
+use records::refusal::{Refusal, Report, Values};
 use records::source::Part;
 use std::alloc::{AllocError, Global};
 use tables::Tables;
@@ -21,6 +20,15 @@ pub(crate) enum Stage {
     Ruling(Ruling),
 }
 
+/// A call's refusal: its number and its values.
+fn print_refusal(output: &mut String, call: &str, refusal: Refusal) -> Result<(), AllocError> {
+    let Report { number, values } = refusal.report();
+    match values {
+        Values::One(value) => writeln!(output, "{call} refused {number} {value}"),
+        Values::Two(first, second) => writeln!(output, "{call} refused {number} {first} {second}"),
+    }
+}
+
 impl Stage {
     /// The tables; whatever stage there was is over.
     fn into_tables(self) -> Tables {
@@ -30,114 +38,98 @@ impl Stage {
             Stage::Ruling(ruling) => ruling.into_tables(),
         }
     }
-}
 
-/// A call's refusal: its number and its values.
-fn print_refusal(output: &mut Output, call: &[u8], refusal: Refusal) -> Result<(), AllocError> {
-    let report = refusal.report();
-    output.begin(call)?;
-    output.word(b"refused")?;
-    output.number(u64::from(report.number))?;
-    match report.values {
-        Values::One(value) => output.number(value as u64)?,
-        Values::Two(first, second) => {
-            output.number(first as u64)?;
-            output.number(second as u64)?;
+    fn open(self, output: &mut String) -> Result<Stage, AllocError> {
+        match open(self.into_tables()) {
+            Ok(opening) => {
+                writeln!(output, "open ok")?;
+                Ok(Stage::Opening(opening))
+            }
+            Err((tables, refusal)) => {
+                print_refusal(output, "open", refusal)?;
+                Ok(Stage::Unopened(tables))
+            }
         }
     }
-    output.end()
-}
 
-fn call_open(stage: Stage, output: &mut Output) -> Result<Stage, AllocError> {
-    match open(stage.into_tables()) {
-        Ok(opening) => {
-            output.line(b"open", b"ok")?;
-            Ok(Stage::Opening(opening))
-        }
-        Err((tables, refusal)) => {
-            print_refusal(output, b"open", refusal)?;
-            Ok(Stage::Unopened(tables))
+    fn converter(&mut self, part: Part, output: &mut String) -> Result<(), AllocError> {
+        let Stage::Opening(opening) = self else {
+            return writeln!(output, "converter order");
+        };
+        match opening.converter(part) {
+            Ok(()) => writeln!(output, "converter ok"),
+            Err(refusal) => print_refusal(output, "converter", refusal),
         }
     }
-}
 
-fn call_converter(stage: &mut Stage, part: Part, output: &mut Output) -> Result<(), AllocError> {
-    let Stage::Opening(opening) = stage else {
-        return output.line(b"converter", b"order");
-    };
-    match opening.converter(part) {
-        Ok(()) => output.line(b"converter", b"ok"),
-        Err(refusal) => print_refusal(output, b"converter", refusal),
-    }
-}
-
-fn call_close(stage: Stage, output: &mut Output) -> Result<Stage, AllocError> {
-    match stage {
-        Stage::Opening(opening) => {
-            output.line(b"close", b"ok")?;
-            Ok(Stage::Ruling(opening.close()))
-        }
-        other => {
-            output.line(b"close", b"order")?;
-            Ok(other)
+    fn close(self, output: &mut String) -> Result<Stage, AllocError> {
+        match self {
+            Stage::Opening(opening) => {
+                writeln!(output, "close ok")?;
+                Ok(Stage::Ruling(opening.close()))
+            }
+            other => {
+                writeln!(output, "close order")?;
+                Ok(other)
+            }
         }
     }
-}
 
-/// A call that follows closing, and is not there yet.
-fn call_later(stage: &Stage, output: &mut Output, call: &[u8]) -> Result<(), AllocError> {
-    match stage {
-        Stage::Ruling(_) => output.line(call, b"not yet"),
-        _ => output.line(call, b"order"),
+    /// A call that follows closing, and is not there yet.
+    fn later(&self, call: &str, output: &mut String) -> Result<(), AllocError> {
+        match self {
+            Stage::Ruling(_) => writeln!(output, "{call} not yet"),
+            _ => writeln!(output, "{call} order"),
+        }
     }
-}
 
-fn call_dump(stage: &Stage, output: &mut Output) -> Result<(), AllocError> {
-    match stage {
-        Stage::Unopened(_) => output.line(b"dump", b"order"),
-        Stage::Opening(opening) => dump(output, opening.tables()),
-        Stage::Ruling(ruling) => dump(output, ruling.tables()),
+    fn dump(&self, output: &mut String) -> Result<(), AllocError> {
+        match self {
+            Stage::Unopened(_) => writeln!(output, "dump order"),
+            Stage::Opening(opening) => dump(output, opening.tables()),
+            Stage::Ruling(ruling) => dump(output, ruling.tables()),
+        }
     }
-}
 
-/// An environment line; the order of lines has it that no stage is open.
-fn fill(heap: Global, mut stage: Stage, line: &Line<'_>) -> Result<Stage, Stop> {
-    if let Stage::Unopened(tables) = &mut stage {
-        add(heap, tables, line)?;
+    /// An environment line; the order of lines has it that no stage is open.
+    fn fill(&mut self, heap: Global, line: &Line<'_>) -> Result<(), Stop> {
+        if let Stage::Unopened(tables) = self {
+            add(heap, tables, line)?;
+        }
+        Ok(())
     }
-    Ok(stage)
+
+    /// One line: the environment is filled, a call is performed.
+    pub(crate) fn step(
+        mut self,
+        heap: Global,
+        line: &Line<'_>,
+        output: &mut String,
+    ) -> Result<Stage, Stop> {
+        match line.item {
+            Item::Open => return Ok(self.open(output)?),
+            Item::Converter { part } => self.converter(part, output)?,
+            Item::Close => return Ok(self.close(output)?),
+            Item::Rule { .. } => self.later("rule", output)?,
+            Item::Finish => self.later("finish", output)?,
+            Item::Run { .. } => self.later("run", output)?,
+            Item::Dump => self.dump(output)?,
+            _ => self.fill(heap, line)?,
+        }
+        Ok(self)
+    }
 }
 
 /// Whether the line is a call.
 pub(crate) fn is_call(item: Item) -> bool {
-    match item {
+    matches!(
+        item,
         Item::Open
-        | Item::Converter { .. }
-        | Item::Close
-        | Item::Rule { .. }
-        | Item::Finish
-        | Item::Run { .. }
-        | Item::Dump => true,
-        _ => false,
-    }
-}
-
-/// One line: the environment is filled, a call is performed.
-pub(crate) fn step(
-    heap: Global,
-    mut stage: Stage,
-    line: &Line<'_>,
-    output: &mut Output,
-) -> Result<Stage, Stop> {
-    match line.item {
-        Item::Open => return Ok(call_open(stage, output)?),
-        Item::Converter { part } => call_converter(&mut stage, part, output)?,
-        Item::Close => return Ok(call_close(stage, output)?),
-        Item::Rule { .. } => call_later(&stage, output, b"rule")?,
-        Item::Finish => call_later(&stage, output, b"finish")?,
-        Item::Run { .. } => call_later(&stage, output, b"run")?,
-        Item::Dump => call_dump(&stage, output)?,
-        _ => return fill(heap, stage, line),
-    }
-    Ok(stage)
+            | Item::Converter { .. }
+            | Item::Close
+            | Item::Rule { .. }
+            | Item::Finish
+            | Item::Run { .. }
+            | Item::Dump
+    )
 }

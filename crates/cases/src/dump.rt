@@ -1,162 +1,134 @@
 // The tables in lines, one for each record.
-use crate::faults::dump_cause;
-use crate::output::Output as Lines;
+use crate::faults::write_values;
 use records::fault::Fault;
-use records::ids::Sym;
-use records::result::{Output, Rule, TypedExpr, TypedNode, TypedPattern};
+use records::ids::TypeId;
+use records::result::{Converter, Output, Rule, TypedExpr, TypedNode, TypedPattern};
+use records::source::{Name, Part, Pos};
 use std::alloc::AllocError;
+use table::Table;
 use tables::Tables;
 
-/// The first two words of a record's line: what it is, and its number.
-fn begin(lines: &mut Lines, what: &[u8], i: usize) -> Result<(), AllocError> {
-    lines.begin(what)?;
-    lines.number(i as u64)
+/// The bytes of a name as text.
+pub(crate) fn name_text(tables: &Tables, name: Name) -> &str {
+    std::str::from_utf8(name.bytes(tables.text.as_slice())).unwrap_or("?")
 }
 
-fn dump_environment(lines: &mut Lines, tables: &Tables) -> Result<(), AllocError> {
-    for (i, symbol) in tables.symbols.as_slice().iter().enumerate() {
-        begin(lines, b"symbol", i)?;
-        lines.name(tables, symbol.name)?;
-        lines.end()?;
-    }
-    for (i, converter) in tables.converters.as_slice().iter().enumerate() {
-        begin(lines, b"converter", i)?;
-        lines.short(converter.inner_ty.0)?;
-        lines.short(converter.outer_ty.0)?;
-        lines.short(converter.term.0)?;
-        lines.end()?;
-    }
-    for (i, definition) in tables.definitions.as_slice().iter().enumerate() {
-        begin(lines, b"definition", i)?;
-        lines.part(definition.part)?;
-        lines.end()?;
+/// A line for each record: a word, its number, and what `values` writes, each value behind a space.
+fn each<T, const MAX: usize, F: Fn(&mut String, &T) -> Result<(), AllocError> + Drop>(
+    output: &mut String,
+    word: &str,
+    records: &Table<T, MAX>,
+    values: F,
+) -> Result<(), AllocError>
+    requires { F.IsAlwaysCallable values }
+{
+    for (i, record) in records.as_slice().iter().enumerate() {
+        write!(output, "{word} {i}")?;
+        values(output, record)?;
+        writeln!(output)?;
     }
     Ok(())
 }
 
-fn dump_fault(lines: &mut Lines, tables: &Tables, fault: Fault) -> Result<(), AllocError> {
-    lines.number(u64::from(fault.cause.number()))?;
-    lines.pos(fault.pos)?;
-    dump_cause(lines, tables, fault.cause)?;
-    lines.end()
+fn write_part(output: &mut String, part: Part) -> Result<(), AllocError> {
+    let Part { start, end } = part;
+    write!(output, " {start} {end}")
 }
 
-fn dump_name(lines: &mut Lines, name: Option<Sym>) -> Result<(), AllocError> {
-    match name {
-        Some(sym) => lines.short(sym.0),
-        None => lines.word(b"-"),
+fn write_pos(output: &mut String, pos: Pos) -> Result<(), AllocError> {
+    let Pos { file, offset } = pos;
+    write!(output, " {file} {offset}")
+}
+
+fn write_converter(output: &mut String, converter: &Converter) -> Result<(), AllocError> {
+    let inner = converter.inner_ty.0;
+    let outer = converter.outer_ty.0;
+    write!(output, " {inner} {outer} {}", converter.term.0)
+}
+
+fn write_fault(output: &mut String, tables: &Tables, fault: &Fault) -> Result<(), AllocError> {
+    write!(output, " {}", fault.cause.number())?;
+    write_pos(output, fault.pos)?;
+    write_values(output, tables, fault.cause)
+}
+
+fn write_rule(output: &mut String, rule: &Rule) -> Result<(), AllocError> {
+    write!(output, " {} {}", rule.root_term.0, rule.prio)?;
+    match rule.name {
+        Some(sym) => write!(output, " {}", sym.0)?,
+        None => write!(output, " -")?,
     }
+    write_pos(output, rule.pos)?;
+    write_part(output, rule.output)?;
+    write_part(output, rule.vars)
 }
 
-fn dump_rule(lines: &mut Lines, rule: Rule) -> Result<(), AllocError> {
-    lines.short(rule.root_term.0)?;
-    lines.integer(rule.prio)?;
-    dump_name(lines, rule.name)?;
-    lines.pos(rule.pos)?;
-    lines.part(rule.output)?;
-    lines.part(rule.vars)?;
-    lines.end()
-}
-
-/// A tag, and the size and the type of its tree.
-fn head(lines: &mut Lines, tag: &[u8], size: u16, ty: u16) -> Result<(), AllocError> {
-    lines.word(tag)?;
-    lines.short(size)?;
-    lines.short(ty)
-}
-
-fn dump_pattern(
-    lines: &mut Lines,
+fn write_pattern(
+    output: &mut String,
     size: u16,
-    ty: u16,
+    ty: TypeId,
     pattern: TypedPattern,
 ) -> Result<(), AllocError> {
-    head(lines, pattern_tag(pattern), size, ty)?;
+    let ty = ty.0;
     match pattern {
-        TypedPattern::BindPattern { var } | TypedPattern::Var { var } => lines.short(var.0),
-        TypedPattern::ConstBool { val } => lines.flag(val),
-        TypedPattern::ConstInt { val } => lines.integer(val),
-        TypedPattern::ConstPrim { val } => lines.short(val.0),
-        TypedPattern::Term { term } => lines.short(term.0),
-        TypedPattern::Wildcard | TypedPattern::And => Ok(()),
-    }
-}
-
-fn pattern_tag(pattern: TypedPattern) -> &'static [u8] {
-    match pattern {
-        TypedPattern::BindPattern { .. } => b"p-bind",
-        TypedPattern::Var { .. } => b"p-var",
-        TypedPattern::ConstBool { .. } => b"p-bool",
-        TypedPattern::ConstInt { .. } => b"p-int",
-        TypedPattern::ConstPrim { .. } => b"p-const",
-        TypedPattern::Term { .. } => b"p-term",
-        TypedPattern::Wildcard => b"p-wild",
-        TypedPattern::And => b"p-and",
-    }
-}
-
-fn dump_expr(lines: &mut Lines, size: u16, ty: u16, expr: TypedExpr) -> Result<(), AllocError> {
-    head(lines, expr_tag(expr), size, ty)?;
-    match expr {
-        TypedExpr::Term { term } => lines.short(term.0),
-        TypedExpr::Var { var } => lines.short(var.0),
-        TypedExpr::ConstBool { val } => lines.flag(val),
-        TypedExpr::ConstInt { val } => lines.integer(val),
-        TypedExpr::ConstPrim { val } => lines.short(val.0),
-        TypedExpr::Let => Ok(()),
-    }
-}
-
-fn expr_tag(expr: TypedExpr) -> &'static [u8] {
-    match expr {
-        TypedExpr::Term { .. } => b"e-term",
-        TypedExpr::Var { .. } => b"e-var",
-        TypedExpr::ConstBool { .. } => b"e-bool",
-        TypedExpr::ConstInt { .. } => b"e-int",
-        TypedExpr::ConstPrim { .. } => b"e-const",
-        TypedExpr::Let => b"e-let",
-    }
-}
-
-fn dump_output(lines: &mut Lines, output: Output) -> Result<(), AllocError> {
-    match output.node {
-        TypedNode::Pattern { ty, pattern } => dump_pattern(lines, output.size, ty.0, pattern)?,
-        TypedNode::Expr { ty, expr } => dump_expr(lines, output.size, ty.0, expr)?,
-        TypedNode::LetDef { ty, var } => {
-            head(lines, b"def", output.size, ty.0)?;
-            lines.short(var.0)?;
+        TypedPattern::BindPattern { var } => write!(output, " p-bind {size} {ty} {}", var.0),
+        TypedPattern::Var { var } => write!(output, " p-var {size} {ty} {}", var.0),
+        TypedPattern::ConstBool { val } => {
+            write!(output, " p-bool {size} {ty} {}", u8::from(val))
         }
-        TypedNode::IfLet => {
-            lines.word(b"iflet")?;
-            lines.short(output.size)?;
-        }
+        TypedPattern::ConstInt { val } => write!(output, " p-int {size} {ty} {val}"),
+        TypedPattern::ConstPrim { val } => write!(output, " p-const {size} {ty} {}", val.0),
+        TypedPattern::Term { term } => write!(output, " p-term {size} {ty} {}", term.0),
+        TypedPattern::Wildcard => write!(output, " p-wild {size} {ty}"),
+        TypedPattern::And => write!(output, " p-and {size} {ty}"),
     }
-    lines.end()
 }
 
-fn dump_results(lines: &mut Lines, tables: &Tables) -> Result<(), AllocError> {
-    for (i, fault) in tables.faults.as_slice().iter().enumerate() {
-        begin(lines, b"fault", i)?;
-        dump_fault(lines, tables, *fault)?;
+fn write_expr(
+    output: &mut String,
+    size: u16,
+    ty: TypeId,
+    expr: TypedExpr,
+) -> Result<(), AllocError> {
+    let ty = ty.0;
+    match expr {
+        TypedExpr::Term { term } => write!(output, " e-term {size} {ty} {}", term.0),
+        TypedExpr::Var { var } => write!(output, " e-var {size} {ty} {}", var.0),
+        TypedExpr::ConstBool { val } => write!(output, " e-bool {size} {ty} {}", u8::from(val)),
+        TypedExpr::ConstInt { val } => write!(output, " e-int {size} {ty} {val}"),
+        TypedExpr::ConstPrim { val } => write!(output, " e-const {size} {ty} {}", val.0),
+        TypedExpr::Let => write!(output, " e-let {size} {ty}"),
     }
-    for (i, rule) in tables.rules.as_slice().iter().enumerate() {
-        begin(lines, b"rule", i)?;
-        dump_rule(lines, *rule)?;
-    }
-    for (i, var) in tables.variables.as_slice().iter().enumerate() {
-        begin(lines, b"var", i)?;
-        lines.short(var.name.0)?;
-        lines.short(var.ty.0)?;
-        lines.end()?;
-    }
-    for (i, output) in tables.output.as_slice().iter().enumerate() {
-        begin(lines, b"out", i)?;
-        dump_output(lines, *output)?;
-    }
-    Ok(())
 }
 
-pub(crate) fn dump(lines: &mut Lines, tables: &Tables) -> Result<(), AllocError> {
-    dump_environment(lines, tables)?;
-    dump_results(lines, tables)
+/// A tag, the size of its tree, its type, and what it holds.
+fn write_node(output: &mut String, record: &Output) -> Result<(), AllocError> {
+    let size = record.size;
+    match record.node {
+        TypedNode::Pattern { ty, pattern } => write_pattern(output, size, ty, pattern),
+        TypedNode::Expr { ty, expr } => write_expr(output, size, ty, expr),
+        TypedNode::LetDef { ty, var } => write!(output, " def {size} {} {}", ty.0, var.0),
+        TypedNode::IfLet => write!(output, " iflet {size}"),
+    }
+}
+
+pub(crate) fn dump(output: &mut String, tables: &Tables) -> Result<(), AllocError> {
+    each(output, "symbol", &tables.symbols, |out, symbol| {
+        write!(out, " {}", name_text(tables, symbol.name))
+    })?;
+    each(output, "converter", &tables.converters, write_converter)?;
+    each(
+        output,
+        "definition",
+        &tables.definitions,
+        |out, definition| { write_part(out, definition.part) },
+    )?;
+    each(output, "fault", &tables.faults, |out, fault| {
+        write_fault(out, tables, fault)
+    })?;
+    each(output, "rule", &tables.rules, write_rule)?;
+    each(output, "var", &tables.variables, |out, var| {
+        write!(out, " {} {}", var.name.0, var.ty.0)
+    })?;
+    each(output, "out", &tables.output, write_node)
 }

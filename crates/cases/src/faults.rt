@@ -1,50 +1,12 @@
 // The values of faults, in the order of their messages.
-use crate::output::Output as Lines;
+use crate::dump::name_text;
 use records::fault::Cause;
-use records::ids::TypeId;
-use records::source::Name;
 use std::alloc::AllocError;
 use tables::Tables;
 
-fn two_types(lines: &mut Lines, first: TypeId, second: TypeId) -> Result<(), AllocError> {
-    lines.short(first.0)?;
-    lines.short(second.0)
-}
-
-fn two_names(
-    lines: &mut Lines,
-    tables: &Tables,
-    first: Name,
-    second: Name,
-) -> Result<(), AllocError> {
-    lines.name(tables, first)?;
-    lines.name(tables, second)
-}
-
-fn type_and_value(lines: &mut Lines, ty: TypeId, val: i64) -> Result<(), AllocError> {
-    lines.short(ty.0)?;
-    lines.integer(val)
-}
-
-fn flag_and_type(lines: &mut Lines, val: bool, ty: TypeId) -> Result<(), AllocError> {
-    lines.flag(val)?;
-    lines.short(ty.0)
-}
-
-fn name_and_types(
-    lines: &mut Lines,
-    tables: &Tables,
-    name: Name,
-    first: TypeId,
-    second: TypeId,
-) -> Result<(), AllocError> {
-    lines.name(tables, name)?;
-    two_types(lines, first, second)
-}
-
-/// The values of a cause.
-pub(crate) fn dump_cause(
-    lines: &mut Lines,
+/// The values of a cause, each behind a space.
+pub(crate) fn write_values(
+    output: &mut String,
     tables: &Tables,
     cause: Cause,
 ) -> Result<(), AllocError> {
@@ -60,71 +22,64 @@ pub(crate) fn dump_cause(
         Cause::UnknownInnerType { name }
         | Cause::UnknownOuterType { name }
         | Cause::UnknownConverterTerm { name }
-        | Cause::DuplicateRuleName { name } => lines.name(tables, name),
-        Cause::ReboundVariable { var } | Cause::ExprUnknownVar { var } => lines.name(tables, var),
-        Cause::NoConstructor { term }
-        | Cause::PatternUnknownTerm { term }
-        | Cause::NoExtractor { term }
-        | Cause::ExprTermIsVariable { term }
-        | Cause::ExprUnknownTerm { term }
-        | Cause::NotPure { term }
-        | Cause::MultiInSingle { term } => lines.name(tables, term),
-        _ => dump_values(lines, tables, cause),
+        | Cause::DuplicateRuleName { name }
+        | Cause::ReboundVariable { var: name }
+        | Cause::ExprUnknownVar { var: name }
+        | Cause::NoConstructor { term: name }
+        | Cause::PatternUnknownTerm { term: name }
+        | Cause::NoExtractor { term: name }
+        | Cause::ExprTermIsVariable { term: name }
+        | Cause::ExprUnknownTerm { term: name }
+        | Cause::NotPure { term: name }
+        | Cause::MultiInSingle { term: name } => write!(output, " {}", name_text(tables, name)),
+        _ => write_several(output, tables, cause),
     }
 }
 
-/// The causes of two values.
-fn dump_values(lines: &mut Lines, tables: &Tables, cause: Cause) -> Result<(), AllocError> {
+/// The causes of two values or three.
+fn write_several(output: &mut String, tables: &Tables, cause: Cause) -> Result<(), AllocError> {
+    let text = |name| name_text(tables, name);
     match cause {
-        Cause::DuplicateConverter { inner, outer } => two_names(lines, tables, inner, outer),
-        Cause::LetUnknownType { ty, var } => two_names(lines, tables, ty, var),
-        Cause::PatternIntType { ty, val } => type_and_value(lines, ty, val),
-        Cause::ExprIntType { ty, val } => type_and_value(lines, ty, val),
+        Cause::DuplicateConverter {
+            inner: first,
+            outer: second,
+        }
+        | Cause::LetUnknownType {
+            ty: first,
+            var: second,
+        } => { write!(output, " {} {}", text(first), text(second)) }
+        // Two arms: one for both was tried, and where an alternative binds an i64 the proof does not close.
+        Cause::PatternIntType { ty, val } => write!(output, " {} {val}", ty.0),
+        Cause::ExprIntType { ty, val } => write!(output, " {} {val}", ty.0),
         Cause::PatternBoolType { val, ty } | Cause::ExprBoolType { val, ty } => {
-            flag_and_type(lines, val, ty)
+            write!(output, " {} {}", u8::from(val), ty.0)
         }
         Cause::PatternTermType { expected, found } | Cause::ExprTermType { expected, found } => {
-            two_types(lines, expected, found)
+            write!(output, " {} {}", expected.0, found.0)
         }
         Cause::PartialOnRight { term, root_multi } => {
-            lines.name(tables, term)?;
-            lines.flag(root_multi)
+            write!(output, " {} {}", text(term), u8::from(root_multi))
         }
-        _ => dump_three(lines, tables, cause),
-    }
-}
-
-/// The causes of three values.
-fn dump_three(lines: &mut Lines, tables: &Tables, cause: Cause) -> Result<(), AllocError> {
-    match cause {
         Cause::ArgumentCount {
             term,
             got,
             expected,
-        } => {
-            lines.name(tables, term)?;
-            lines.number(u64::from(got))?;
-            lines.number(u64::from(expected))
-        }
+        } => { write!(output, " {} {got} {expected}", text(term)) }
         Cause::PatternVarType {
             expected,
             var,
             found,
-        } => {
-            lines.short(expected.0)?;
-            lines.name(tables, var)?;
-            lines.short(found.0)
-        }
+        } => { write!(output, " {} {} {}", expected.0, text(var), found.0) }
         Cause::ExprVarType {
-            var,
-            found,
-            expected,
-        } => name_and_types(lines, tables, var, found, expected),
-        Cause::ExprConstType {
-            val,
-            expected,
-            found,
-        } => name_and_types(lines, tables, val, expected, found),
+            var: name,
+            found: first,
+            expected: second,
+        }
+        | Cause::ExprConstType {
+            val: name,
+            expected: first,
+            found: second,
+        } => { write!(output, " {} {} {}", text(name), first.0, second.0) }
         _ => Ok(()),
     }
 }

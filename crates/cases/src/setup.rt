@@ -1,6 +1,6 @@
 // Tables with the limits that the file asks for, and the built-in types.
 use crate::calls::is_call;
-use crate::lines::{read_line, split_line};
+use crate::lines::read_line;
 use crate::stop::Stop;
 use items::Item;
 use records::refusal::TableId;
@@ -33,38 +33,37 @@ fn set_limit(limits: &mut Limits, table: TableId, limit: u64) {
     }
 }
 
-/// Takes over what an environment line says of limits and expansion.
-fn take_over(setup: &mut Setup, item: Item) {
-    match item {
-        Item::Limit { table, limit } => set_limit(&mut setup.limits, table, limit),
-        Item::Expand { on } => setup.expand = on,
-        _ => {}
-    }
-}
-
-/// The limits of the file, up to its first call or its first malformed line, where reading ends anyway.
-fn read_setup(heap: Global, file: &[u8]) -> Setup {
-    let mut setup = Setup {
-        limits: Limits::MAX,
-        expand: true,
-    };
-    let mut rest = file;
-    while !rest.is_empty() {
-        let (bytes, behind) = split_line(rest);
-        rest = behind;
-        match read_line(heap, bytes) {
-            Ok(Some(line)) if is_call(line.item) => break,
-            Ok(Some(line)) => take_over(&mut setup, line.item),
-            Ok(None) => {}
-            Err(_) => break,
+impl Setup {
+    /// Takes over what an environment line says of limits and expansion.
+    fn take_over(&mut self, item: Item) {
+        match item {
+            Item::Limit { table, limit } => set_limit(&mut self.limits, table, limit),
+            Item::Expand { on } => self.expand = on,
+            _ => {}
         }
     }
-    setup
+
+    /// What the file says up to its first call or its first malformed line, where reading ends anyway.
+    fn read(heap: Global, file: &[u8]) -> Setup {
+        let mut setup = Setup {
+            limits: Limits::MAX,
+            expand: true,
+        };
+        for bytes in file.split(|byte| *byte == b'\n') {
+            match read_line(heap, bytes) {
+                Ok(Some(line)) if is_call(line.item) => break,
+                Ok(Some(line)) => setup.take_over(line.item),
+                Ok(None) => {}
+                Err(_) => break,
+            }
+        }
+        setup
+    }
 }
 
 /// Tables as the file wants them, with the built-in types as far as they fit.
 pub(crate) fn new_tables(heap: Global, file: &[u8]) -> Result<Tables, Stop> {
-    let setup = read_setup(heap, file);
+    let setup = Setup::read(heap, file);
     let mut tables = Tables::new(heap, &setup.limits, setup.expand)?;
     let _ = tables.add_builtins();
     Ok(tables)

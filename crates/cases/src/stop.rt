@@ -1,61 +1,31 @@
 // Why a file is read no further.
 use items::Malformed;
 use records::refusal::Refusal;
-use std::alloc::{AllocError, AllocFailed};
+use std::alloc::AllocError;
+use std::num::TryFromIntError;
 use table::Full;
+use thiserror::Error;
 
-#[derive(Clone, Copy)]
+#[derive(Clone, Copy, Debug, Error)]
 pub(crate) enum Stop {
-    NoMemory,
+    #[error("no memory")]
+    NoMemory(#[from] AllocError),
     /// A byte that is neither a space nor a printable ASCII character.
+    #[error("a character that is not printable ASCII")]
     Unprintable,
-    Malformed(Malformed),
+    #[error("{0}")]
+    Malformed(#[from] Malformed),
     /// A table has no place for what the line adds.
+    #[error("a table is full")]
     Full,
 }
 
-impl Stop {
-    pub(crate) fn message(self) -> &'static str {
-        match self {
-            Stop::NoMemory => "no memory",
-            Stop::Unprintable => "a character that is not printable ASCII",
-            Stop::Malformed(fault) => describe(fault),
-            Stop::Full => "a table is full",
-        }
-    }
-}
-
-fn describe(fault: Malformed) -> &'static str {
-    match fault {
-        Malformed::EmptyWord => "an empty word",
-        Malformed::UnknownLine => "no line begins so",
-        Malformed::UnknownWord => "an unknown tag, kind or flag",
-        Malformed::MissingWord => "a word is missing",
-        Malformed::SurplusWord => "a word too many",
-        Malformed::NotANumber => "not a number",
-        Malformed::DoesNotFit => "a number that does not fit",
-        Malformed::FarName => "a name beyond 32 bits",
-        Malformed::AfterCall => "an environment line behind the first call",
-        Malformed::NoHost => "no host here that takes this row",
-    }
-}
-
-impl From<AllocError> for Stop {
-    fn from(_error: AllocError) -> Stop {
-        Stop::NoMemory
-    }
-}
-
-impl<T: Drop> From<AllocFailed<T>> for Stop {
-    fn from(_refused: AllocFailed<T>) -> Stop {
-        Stop::NoMemory
-    }
-}
-
-impl From<Malformed> for Stop {
-    fn from(fault: Malformed) -> Stop {
-        Stop::Malformed(fault)
-    }
+/// The line that is read no further, by its number: the first is 1, and at 0 there are no tables for any.
+#[derive(Clone, Copy, Debug, Error)]
+#[error("line {line}: {why}")]
+pub(crate) struct BadLine {
+    pub(crate) line: usize,
+    pub(crate) why: Stop,
 }
 
 impl From<Full> for Stop {
@@ -66,6 +36,13 @@ impl From<Full> for Stop {
 
 impl From<Refusal> for Stop {
     fn from(_refusal: Refusal) -> Stop {
+        Stop::Full
+    }
+}
+
+/// The number of the next record is larger than any table.
+impl From<TryFromIntError> for Stop {
+    fn from(_error: TryFromIntError) -> Stop {
         Stop::Full
     }
 }

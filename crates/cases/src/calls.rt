@@ -1,5 +1,5 @@
 // The stages, and what each call does at each.
-use crate::build::add;
+use crate::build::Adding;
 use crate::dump::dump;
 use crate::lines::Line;
 use crate::stop::Stop;
@@ -93,10 +93,10 @@ impl Stage {
 
     /// An environment line; the order of lines has it that no stage is open.
     fn fill(&mut self, heap: Global, line: &Line<'_>) -> Result<(), Stop> {
-        if let Stage::Unopened(tables) = self {
-            add(heap, tables, line)?;
+        match self {
+            Stage::Unopened(tables) => Adding { heap, tables, line }.add(),
+            _ => Ok(()),
         }
-        Ok(())
     }
 
     /// One line: the environment is filled, a call is performed.

@@ -16,6 +16,7 @@ use std::io::Read;
 use std::process::ExitCode;
 
 /// Tells on standard error what is wrong with a line, after the answers to the lines before it.
+// Not by the bounds `Input` and `Print`: a reader under `Input` also seeks, which is one more system call to trust.
 fn run(rt: &HostRuntime) -> io::Result<ExitCode> {
     let heap = rt.alloc();
     let mut file = Vec::new(heap);

@@ -32,22 +32,18 @@ pub(crate) fn write_values(
         | Cause::ExprUnknownTerm { term: name }
         | Cause::NotPure { term: name }
         | Cause::MultiInSingle { term: name } => write!(output, " {}", name_text(tables, name)),
-        _ => write_several(output, tables, cause),
+        _ => write_two(output, tables, cause),
     }
 }
 
-/// The causes of two values or three.
-fn write_several(output: &mut String, tables: &Tables, cause: Cause) -> Result<(), AllocError> {
+/// The causes of two values.
+fn write_two(output: &mut String, tables: &Tables, cause: Cause) -> Result<(), AllocError> {
     let text = |name| name_text(tables, name);
     match cause {
-        Cause::DuplicateConverter {
-            inner: first,
-            outer: second,
+        Cause::DuplicateConverter { inner, outer } => {
+            write!(output, " {} {}", text(inner), text(outer))
         }
-        | Cause::LetUnknownType {
-            ty: first,
-            var: second,
-        } => { write!(output, " {} {}", text(first), text(second)) }
+        Cause::LetUnknownType { ty, var } => write!(output, " {} {}", text(ty), text(var)),
         // Two arms: one for both was tried, and where an alternative binds an i64 the proof does not close.
         Cause::PatternIntType { ty, val } => write!(output, " {} {val}", ty.0),
         Cause::ExprIntType { ty, val } => write!(output, " {} {val}", ty.0),
@@ -60,6 +56,14 @@ fn write_several(output: &mut String, tables: &Tables, cause: Cause) -> Result<(
         Cause::PartialOnRight { term, root_multi } => {
             write!(output, " {} {}", text(term), u8::from(root_multi))
         }
+        _ => write_three(output, tables, cause),
+    }
+}
+
+/// The causes of three values.
+fn write_three(output: &mut String, tables: &Tables, cause: Cause) -> Result<(), AllocError> {
+    let text = |name| name_text(tables, name);
+    match cause {
         Cause::ArgumentCount {
             term,
             got,

@@ -1,7 +1,10 @@
 // A list with a limit whose memory is claimed once, when it is made.
 #![tactic(auto)]
 
-ghost use Rattle.std.specs.Prelude.{◌≤◌, vec_len, vec_capacity};
+ghost use Rattle.std.specs.Prelude.{vec_len, vec_items, vec_capacity};
+ghost use Rattle.table.specs.Contents.{Contents, IsWithin};
+
+use std::marker::Model;
 
 mod methods;
 
@@ -14,7 +17,13 @@ pub struct Full;
 pub struct Table<T, const MAX: usize> {
     items: Vec<T>,
     limit: usize,
-    ghost few: { vec_len items ≤ limit },
-    ghost room: { limit ≤ vec_capacity items },
-    ghost bound: { limit ≤ MAX },
+}
+
+/// To a contract a table is its items and its limit.
+impl<T, const MAX: usize> Model for Table<T, MAX> {
+    ghost Value = { Contents T };
+
+    ghost view = { λ t. record { items = vec_items t.items; limit = t.limit } };
+
+    ghost invariant = { λ t. IsWithin (vec_len t.items) t.limit (vec_capacity t.items) MAX };
 }

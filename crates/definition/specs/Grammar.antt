@@ -4,9 +4,8 @@ use Rattle.records.specs.declared.source.Expr.{Expr}
 use Rattle.records.specs.declared.source.Expr.TheVariants as expr
 use Rattle.records.specs.declared.source.Node.{Node}
 use Rattle.records.specs.declared.source.Node.TheVariants as node
-use Rattle.records.specs.declared.source.Pattern.{Pattern}
-use Rattle.records.specs.declared.source.Pattern.TheVariants as pattern
 use Rattle.records.specs.declared.source.Source.{Source}
+use Rattle.records.specs.Patterns.{pattern_counts}
 use Rattle.tree.specs.Layout.{Rules}
 use Rattle.definition.specs.declared.grammar.Kind.{Kind}
 use Rattle.definition.specs.declared.grammar.Kind.TheVariants as kind
@@ -21,18 +20,7 @@ kind_of (node.Rule prio name) = kind.Rule
 kind_of (node.Ident name) = kind.Ident
 kind_of node.Converter = kind.Converter
 
--- over how many trees a pattern may stand; a macro argument stands in templates only
-abbrev pub pattern_counts : Pattern → ℕ → Bool
-pattern_counts (pattern.Var var) n = n == 0
-pattern_counts (pattern.BindPattern var) n = n == 1
-pattern_counts (pattern.ConstBool val) n = n == 0
-pattern_counts (pattern.ConstInt val) n = n == 0
-pattern_counts (pattern.ConstPrim val) n = n == 0
-pattern_counts (pattern.Term sym) n = true
-pattern_counts pattern.Wildcard n = n == 0
-pattern_counts pattern.And n = true
-pattern_counts (pattern.MacroArg index) n = false
-
+-- over how many trees an expression may stand
 abbrev pub expr_counts : Expr → ℕ → Bool
 expr_counts (expr.Term sym) n = true
 expr_counts (expr.Var name) n = n == 0
@@ -42,7 +30,7 @@ expr_counts (expr.ConstPrim val) n = n == 0
 expr_counts expr.Let n = nat_le 1 n
 
 abbrev pub counts : Node → ℕ → Bool
-counts (node.Pattern p) n = pattern_counts p n
+counts (node.Pattern p) n = pattern_counts 0 p n
 counts (node.Expr e) n = expr_counts e n
 counts (node.LetDef var ty) n = n == 1
 counts node.IfLet n = n == 2

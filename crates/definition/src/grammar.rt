@@ -1,8 +1,8 @@
 // The grammar of definitions: which records may stand below which.
 ghost use Rattle.std.specs.Prelude.{◌≡◌};
-ghost use Rattle.definition.specs.Grammar.{kind_of, child_kind, pattern_counts, expr_counts, definition_rules};
+ghost use Rattle.definition.specs.Grammar.{kind_of, child_kind, expr_counts, definition_rules};
 
-use records::source::{Expr, Node, Pattern, Source};
+use records::source::{Expr, Node, Source};
 use tree::Grammar;
 
 /// What a record is the root of.
@@ -30,22 +30,6 @@ impl From<Node> for Kind {
             Node::Ident { .. } => Kind::Ident,
             Node::Converter => Kind::Converter,
         }
-    }
-}
-
-/// Whether the pattern may stand over that many trees. A macro argument stands in templates only.
-fn pattern_counts(pattern: Pattern, children: usize) -> bool
-    ensures { result ≡ pattern_counts pattern children }
-{
-    match pattern {
-        Pattern::Term { .. } | Pattern::And => true,
-        Pattern::BindPattern { .. } => children == 1,
-        Pattern::MacroArg { .. } => false,
-        Pattern::Var { .. }
-        | Pattern::ConstBool { .. }
-        | Pattern::ConstInt { .. }
-        | Pattern::ConstPrim { .. }
-        | Pattern::Wildcard => children == 0,
     }
 }
 
@@ -93,7 +77,7 @@ impl Grammar for Definition {
 
     fn counts(&self, node: &Source, children: usize) -> bool {
         match node.node {
-            Node::Pattern(pattern) => pattern_counts(pattern, children),
+            Node::Pattern(pattern) => pattern.counts(0, children),
             Node::Expr(expr) => expr_counts(expr, children),
             Node::LetDef { .. } => children == 1,
             Node::IfLet => children == 2,

@@ -16,7 +16,7 @@ pub enum TypeKind {
     Struct,
 }
 
-#[derive(Clone, Copy)]
+#[derive(Clone, Copy, PartialEq, Eq)]
 pub struct Type {
     pub name: Sym,
     pub kind: TypeKind,

@@ -4,22 +4,22 @@ ghost use Rattle.records.specs.Numbers.{report_of, table_number};
 
 use crate::ids::{RuleId, TermId};
 
-/// The tables of an elaboration.
+/// The tables of an elaboration, each with the number by which refusals name it.
 #[derive(Clone, Copy)]
 pub enum TableId {
-    Text,
-    Types,
-    Constants,
-    Rules,
-    Definitions,
-    Faults,
-    Terms,
-    Source,
-    Output,
-    Symbols,
-    Converters,
-    Variables,
-    Scopes,
+    Text = 0,
+    Types = 1,
+    Constants = 2,
+    Rules = 3,
+    Definitions = 4,
+    Faults = 5,
+    Terms = 6,
+    Source = 7,
+    Output = 8,
+    Symbols = 9,
+    Converters = 10,
+    Variables = 11,
+    Scopes = 12,
 }
 
 impl TableId {
@@ -44,21 +44,7 @@ impl TableId {
     pub fn number(self) -> usize
         ensures { result ≡ table_number self }
     {
-        match self {
-            TableId::Text => 0,
-            TableId::Types => 1,
-            TableId::Constants => 2,
-            TableId::Rules => 3,
-            TableId::Definitions => 4,
-            TableId::Faults => 5,
-            TableId::Terms => 6,
-            TableId::Source => 7,
-            TableId::Output => 8,
-            TableId::Symbols => 9,
-            TableId::Converters => 10,
-            TableId::Variables => 11,
-            TableId::Scopes => 12,
-        }
+        self as usize
     }
 }
 

@@ -1,6 +1,7 @@
 // Source trees: the definitions and templates as the reader found them, before any name is resolved.
 ghost use Rattle.std.specs.Prelude.{◌≡◌, take, drop};
 ghost use Rattle.records.specs.Parts.{bytes, slice};
+ghost use Rattle.records.specs.Patterns.{pattern_counts};
 
 /// A name's bytes: a part of the text.
 #[derive(Clone, Copy)]
@@ -27,10 +28,8 @@ pub struct Part {
 fn clipped<T>(items: &[T], start: usize, len: usize) -> &[T]
     ensures { result.now ≡ take len (drop start items.now) }
 {
-    let start = start.min(items.len());
-    let rest = &items[start..];
-    let len = len.min(rest.len());
-    &rest[..len]
+    let rest = items.get(start..).unwrap_or(&[]);
+    rest.get(..len).unwrap_or(rest)
 }
 
 impl Name {
@@ -67,6 +66,24 @@ pub enum Pattern {
     And,
     /// An argument of the template that it stands in.
     MacroArg { index: u16 },
+}
+
+impl Pattern {
+    /// Whether the pattern may stand over that many patterns, in a template with `arity` arguments. A definition has none, and so no macro argument.
+    pub fn counts(self, arity: usize, children: usize) -> bool
+        ensures { result ≡ pattern_counts arity self children }
+    {
+        match self {
+            Pattern::Term { .. } | Pattern::And => true,
+            Pattern::BindPattern { .. } => children == 1,
+            Pattern::MacroArg { index } => (index as usize) < arity && children == 0,
+            Pattern::Var { .. }
+            | Pattern::ConstBool { .. }
+            | Pattern::ConstInt { .. }
+            | Pattern::ConstPrim { .. }
+            | Pattern::Wildcard => children == 0,
+        }
+    }
 }
 
 #[derive(Clone, Copy)]

@@ -1,3 +1,2 @@
 pub mod Chains
-pub mod Numbers
-pub mod Places
+pub mod News

@@ -1,5 +1,5 @@
 -- Which tables are lawful: what each record has to keep, and which record is named where one does not.
-use Rattle.std.specs.Prelude.{◌≡◌, ℕ, zero, suc, ◌-◌, ◌<◌, ◌≤◌, List, [], ◌∷◌, map, length, take, drop, Some, None, vec_items, Option, slice_index_or}
+use Rattle.std.specs.Prelude.{◌≡◌, ℕ, zero, suc, ◌<◌, ◌≤◌, List, [], ◌∷◌, map, length, Some, None, vec_items, Option, slice_index_or}
 use Rattle.std.specs.List.{AllByRecursion, slice_get}
 use Rattle.tree.specs.Layout.{IsTree}
 use Rattle.records.specs.Numbers.{table_number}
@@ -27,9 +27,10 @@ use Rattle.records.specs.declared.source.Part.{Part}
 use Rattle.records.specs.declared.source.Pattern.{Pattern}
 use Rattle.records.specs.declared.source.Pattern.TheVariants as pattern
 use Rattle.records.specs.declared.source.Source.{Source}
-use Rattle.tables.specs.Names.{Inside, New, bytes, builtin_names}
+use Rattle.records.specs.Parts.{bytes, slice}
+use Rattle.tables.specs.Names.{Inside, New, builtin_names}
 use Rattle.tables.specs.Template.{template_rules}
-use Rattle.tables.specs.View.{Env}
+use Rattle.tables.specs.Tables.{Env}
 
 -- what holds of the i-th item, if there is one
 abbrev pub IfAt : {X : Type 0} → List X → ℕ → (X → Type 0) → Type 0
@@ -39,10 +40,6 @@ IfAt {X} xs i P = (x : X) → slice_get xs i ≡ Some x → P x
 abbrev pub builtin_type : ℕ → Ty
 builtin_type zero = record { name = record { 0 = zero }; kind = type_kind.Bool }
 builtin_type (suc i) = record { name = record { 0 = suc i }; kind = type_kind.Int }
-
--- the part of the list, as far as the list goes
-abbrev pub slice : {X : Type 0} → List X → Part → List X
-slice xs p = take (p.end - p.start) (drop p.start xs)
 
 -- the template of a term that has one
 abbrev pub extractor_template : Option ExtractorKind → Option Part

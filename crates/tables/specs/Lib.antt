@@ -1,4 +1,4 @@
-pub mod View
+pub mod Tables
 pub mod Names
 pub mod Template
 pub mod Lawful

@@ -1,10 +1,7 @@
 -- Names: parts of the text.
-use Rattle.std.specs.Prelude.{ℕ, ◌+◌, ◌<◌, ◌≤◌, List, [], ◌∷◌, length, take, drop, codes, ◌≢◌}
+use Rattle.std.specs.Prelude.{ℕ, ◌+◌, ◌<◌, ◌≤◌, List, [], ◌∷◌, length, codes, ◌≢◌}
 use Rattle.std.specs.List.{slice_get}
 use Rattle.records.specs.declared.source.Name.{Name}
-
-abbrev pub bytes : List ℕ → Name → List ℕ
-bytes text n = take n.len (drop n.start text)
 
 -- the name has 1 to 255 bytes, and they lie in the text
 pub record Inside (text : List ℕ) (n : Name) : Type 0 where

@@ -1,6 +1,6 @@
 -- Calls that add to tables and may be refused, as functions on all tables.
 use Rattle.std.specs.Prelude.{ℕ, suc, List, [], ◌∷◌, length}
-use Rattle.table.specs.Shelf.{Shelf, Told, done, refused, put, put_all}
+use Rattle.table.specs.Contents.{Contents, Outcome, done, refused, put, put_all}
 use Rattle.table.specs.declared.Full.{Full}
 use Rattle.records.specs.declared.env.Symbol.{Symbol}
 use Rattle.records.specs.declared.env.«Type».{«Type» as Ty}
@@ -10,14 +10,14 @@ use Rattle.records.specs.declared.refusal.TableId.{TableId}
 use Rattle.records.specs.declared.refusal.TableId.TheVariants as table
 use Rattle.records.specs.declared.source.Name.{Name}
 use Rattle.tables.specs.Lawful.{builtin_type}
-use Rattle.tables.specs.View.{View}
+use Rattle.tables.specs.declared.Tables.{Tables}
 
 -- what a call leaves and answers, or what it leaves and why it is refused
 abbrev pub Step : Type 0 → Type 0
-Step A = View → Told View A Refusal
+Step A = Tables → Outcome Tables A Refusal
 
 -- the next step, unless this one was refused
-abbrev pub after : {A B : Type 0} → Told View A Refusal → (A → Step B) → Told View B Refusal
+abbrev pub after : {A B : Type 0} → Outcome Tables A Refusal → (A → Step B) → Outcome Tables B Refusal
 after (done v a) k = k a v
 after (refused v e) k = refused v e
 
@@ -25,11 +25,11 @@ unfoldable pub ◌>>=◌ : {A B : Type 0} → Step A → (A → Step B) → Step
 ◌>>=◌ m k v = after (m v) k
 
 -- what adding to one table does to all of them; a full table is named
-abbrev pub onto : {T A : Type 0} → TableId → (Shelf T → View) → Told (Shelf T) A Full → Told View A Refusal
+abbrev pub onto : {T A : Type 0} → TableId → (Contents T → Tables) → Outcome (Contents T) A Full → Outcome Tables A Refusal
 onto t put_back (done s a) = done (put_back s) a
 onto t put_back (refused s e) = refused (put_back s) (refusal.Full t)
 
-abbrev pub with_text : View → Shelf ℕ → View
+abbrev pub with_text : Tables → Contents ℕ → Tables
 with_text v s = record {
   text = s;
   types = v.types;
@@ -44,10 +44,10 @@ with_text v s = record {
   converters = v.converters;
   variables = v.variables;
   scopes = v.scopes;
-  expand = v.expand;
+  expand_internal_extractors = v.expand_internal_extractors;
 }
 
-abbrev pub with_types : View → Shelf Ty → View
+abbrev pub with_types : Tables → Contents Ty → Tables
 with_types v s = record {
   text = v.text;
   types = s;
@@ -62,10 +62,10 @@ with_types v s = record {
   converters = v.converters;
   variables = v.variables;
   scopes = v.scopes;
-  expand = v.expand;
+  expand_internal_extractors = v.expand_internal_extractors;
 }
 
-abbrev pub with_symbols : View → Shelf Symbol → View
+abbrev pub with_symbols : Tables → Contents Symbol → Tables
 with_symbols v s = record {
   text = v.text;
   types = v.types;
@@ -80,7 +80,7 @@ with_symbols v s = record {
   converters = v.converters;
   variables = v.variables;
   scopes = v.scopes;
-  expand = v.expand;
+  expand_internal_extractors = v.expand_internal_extractors;
 }
 
 -- the bytes of a name, at the end of the text

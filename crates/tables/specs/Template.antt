@@ -1,23 +1,10 @@
 -- Which trees of the source list are templates: patterns, with macro arguments below the term's arity.
-use Rattle.std.specs.Prelude.{ℕ, Bool, true, false, ◌&&◌, ◌==◌, nat_lt}
+use Rattle.std.specs.Prelude.{ℕ, Bool, true, false}
 use Rattle.records.specs.declared.source.Node.{Node}
 use Rattle.records.specs.declared.source.Node.TheVariants as node
-use Rattle.records.specs.declared.source.Pattern.{Pattern}
-use Rattle.records.specs.declared.source.Pattern.TheVariants as pattern
 use Rattle.records.specs.declared.source.Source.{Source}
+use Rattle.records.specs.Patterns.{pattern_counts}
 use Rattle.tree.specs.Layout.{Rules}
-
--- whether a pattern of a template of that arity may stand over n patterns
-abbrev pub pattern_counts : ℕ → Pattern → ℕ → Bool
-pattern_counts arity (pattern.Var var) n = n == 0
-pattern_counts arity (pattern.BindPattern var) n = n == 1
-pattern_counts arity (pattern.ConstBool val) n = n == 0
-pattern_counts arity (pattern.ConstInt val) n = n == 0
-pattern_counts arity (pattern.ConstPrim val) n = n == 0
-pattern_counts arity (pattern.Term sym) n = true
-pattern_counts arity pattern.Wildcard n = n == 0
-pattern_counts arity pattern.And n = true
-pattern_counts arity (pattern.MacroArg index) n = nat_lt index arity && n == 0
 
 -- no other record stands in a template
 abbrev pub template_counts : ℕ → Node → ℕ → Bool

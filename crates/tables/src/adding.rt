@@ -1,9 +1,8 @@
 // Adding to tables; a full table is a refusal that names it.
 ghost use Rattle.std.specs.Prelude.{◌≡◌, ◌<◌, [], slice_index_or};
-ghost use Rattle.table.specs.Shelf.{told};
+ghost use Rattle.table.specs.Contents.{outcome};
 ghost use Rattle.tables.specs.Names.{builtin_names};
 ghost use Rattle.tables.specs.Steps.{add_name, add_symbol, add_type, add_builtin, add_builtins};
-ghost use Rattle.tables.specs.View.{view};
 
 use crate::Tables;
 use crate::names::{BUILTINS, builtin_name, builtin_type};
@@ -14,46 +13,40 @@ use records::source::Name;
 impl Tables {
     /// The bytes of a name, written at the end of the text.
     pub fn add_name(&mut self, bytes: &[u8]) -> Result<Name, Refusal>
-        ensures { told (view self.new) result ≡ add_name bytes.now (view self.old) }
+        ensures { outcome self.new result ≡ add_name bytes.now self.old }
     {
         let start = self.text.len();
-        match self.text.extend_from_slice(bytes) {
-            Ok(()) => Ok(Name {
-                start: start as u32,
-                len: bytes.len() as u32,
-            }),
-            Err(_) => Err(Refusal::Full {
+        self.text
+            .extend_from_slice(bytes)
+            .map_err(|_| Refusal::Full {
                 table: TableId::Text,
-            }),
-        }
+            })?;
+        Ok(Name {
+            start: start as u32,
+            len: (self.text.len() - start) as u32,
+        })
     }
 
     pub fn add_symbol(&mut self, symbol: Symbol) -> Result<(), Refusal>
-        ensures { told (view self.new) result ≡ add_symbol symbol (view self.old) }
+        ensures { outcome self.new result ≡ add_symbol symbol self.old }
     {
-        match self.symbols.push(symbol) {
-            Ok(()) => Ok(()),
-            Err(_) => Err(Refusal::Full {
-                table: TableId::Symbols,
-            }),
-        }
+        self.symbols.push(symbol).map_err(|_| Refusal::Full {
+            table: TableId::Symbols,
+        })
     }
 
     pub fn add_type(&mut self, ty: Type) -> Result<(), Refusal>
-        ensures { told (view self.new) result ≡ add_type ty (view self.old) }
+        ensures { outcome self.new result ≡ add_type ty self.old }
     {
-        match self.types.push(ty) {
-            Ok(()) => Ok(()),
-            Err(_) => Err(Refusal::Full {
-                table: TableId::Types,
-            }),
-        }
+        self.types.push(ty).map_err(|_| Refusal::Full {
+            table: TableId::Types,
+        })
     }
 
     /// Built-in type `i`: its name, the symbol of that name, the type.
     fn add_builtin(&mut self, i: usize) -> Result<(), Refusal>
         requires { i < 13 }
-        ensures { told (view self.new) result ≡ add_builtin i (slice_index_or builtin_names i []) (view self.old) }
+        ensures { outcome self.new result ≡ add_builtin i (slice_index_or builtin_names i []) self.old }
     {
         let name = self.add_name(builtin_name(i))?;
         self.add_symbol(Symbol { name })?;
@@ -62,7 +55,7 @@ impl Tables {
 
     /// The built-in types, with which every environment begins.
     pub fn add_builtins(&mut self) -> Result<(), Refusal>
-        ensures { told (view self.new) result ≡ add_builtins 0 builtin_names (view self.old) }
+        ensures { outcome self.new result ≡ add_builtins 0 builtin_names self.old }
     {
         for i in 0..BUILTINS {
             self.add_builtin(i)?;

@@ -5,7 +5,6 @@ mod adding;
 mod checks;
 mod keeps;
 mod making;
-mod named;
 mod names;
 mod template;
 

@@ -1,5 +1,5 @@
 ghost use Rattle.std.specs.Prelude.{◌≡◌, IfOk};
-ghost use Rattle.tables.specs.View.{view, fresh, emptied};
+ghost use Rattle.tables.specs.Tables.{fresh, emptied};
 
 use crate::{Limits, Tables};
 use std::alloc::{AllocError, Global};
@@ -12,7 +12,7 @@ impl Tables {
         limits: &Limits,
         expand_internal_extractors: bool,
     ) -> Result<Tables, AllocError>
-        ensures { IfOk result (λ t. view t ≡ fresh limits.now expand_internal_extractors) }
+        ensures { IfOk result (λ t. t ≡ fresh limits.now expand_internal_extractors) }
     {
         let text = Table::with_limit(heap, limits.text)?;
         let types = Table::with_limit(heap, limits.types)?;
@@ -47,7 +47,7 @@ impl Tables {
 
     /// Takes back all that an elaboration wrote, and leaves the environment as it is.
     pub fn clear_results(&mut self)
-        ensures { view self.new ≡ emptied (view self.old) }
+        ensures { self.new ≡ emptied self.old }
     {
         self.rules.truncate(0);
         self.definitions.truncate(0);

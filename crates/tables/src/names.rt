@@ -1,7 +1,7 @@
 // Names as parts of the text, and the names of the built-in types.
-ghost use Rattle.std.specs.Prelude.{◌≡◌, ◌<◌, [], Decides, slice_index_or};
+ghost use Rattle.std.specs.Prelude.{◌≡◌, ◌<◌, ◌↔◌, [], IsTrue, slice_index_or};
 ghost use Rattle.tables.specs.Lawful.{builtin_type};
-ghost use Rattle.tables.specs.Names.{Inside, bytes, builtin_names};
+ghost use Rattle.tables.specs.Names.{Inside, builtin_names};
 
 use records::env::{Type, TypeKind};
 use records::ids::Sym;
@@ -50,26 +50,8 @@ pub(crate) fn builtin_type(i: usize) -> Type
 
 /// Whether the name has 1 to 255 bytes, and they lie in the text.
 pub(crate) fn is_inside(text: &[u8], name: Name) -> bool
-    ensures { Decides result (Inside text.now name) }
+    ensures { IsTrue result ↔ Inside text.now name }
 {
     let len = name.len as usize;
     0 < len && len <= 255 && name.start as usize + len <= text.len()
-}
-
-/// The bytes of a name that lies in the text.
-pub(crate) fn bytes_of(text: &[u8], name: Name) -> &[u8]
-    requires { Inside text.now name }
-    ensures { result.now ≡ bytes text.now name }
-{
-    let start = name.start as usize;
-    &text[start..start + name.len as usize]
-}
-
-/// Whether two names that lie in the text have the same bytes.
-pub(crate) fn same_name(text: &[u8], a: Name, b: Name) -> bool
-    requires a { Inside text.now a }
-    requires b { Inside text.now b }
-    ensures { Decides result (bytes text.now a ≡ bytes text.now b) }
-{
-    bytes_of(text, a) == bytes_of(text, b)
 }

@@ -1,24 +1,27 @@
-use Rattle.std.proofs.Common.{refl, ◌∙◌, arith}
+use Rattle.std.proofs.Common.{rules, tests, not, refl, ap, ◌∙◌, arith}
 use Rattle.std.proofs.lemmas.Bool.{both_ways}
-use Rattle.tree.proofs.Walks.{refuted}
+use Rattle.std.proofs.lemmas.Iterator.{YieldsList-from_slice}
+use Rattle.std.proofs.lemmas.Iterator.Search.{any_from_yields_List}
+use Rattle.tables.proofs.News.{New-same_name}
 use Rattle.tables.proofs.Tables.is_good_term.Goals as goal
 
-pub returns-then-not-is_new : goal.returns-then-not-is_new
-returns-then-not-is_new c =
-    let new = rw c.as_slice-2.ensures at c.is_new.ensures in
-    refuted (λ good. both_ways _ c.if-not-is_new.true (new.1 good.new))
+pub returns-then-any : goal.returns-then-any
+returns-then-any c =
+    let new = New-same_name (λ r. r.name) _ _ _ c.requires _
+    (any_from_yields_List _ _ _ _ c.any.ensures.ran (YieldsList-from_slice _ (rw c.as_slice.ensures.items at c.iter.ensures.rest)) (λ x b q k. search (rules, tests))) in
+    ((λ t. absurd (both_ways _ refl t)), (λ good. absurd (both_ways _ refl (rw c.if-any.true at (new.1 good.new)))))
 
 pub returns : goal.returns
 returns c =
-    let args = rw c.as_slice.ensures.value at c.if-not-are_types.ensures in
-    let new = rw c.as_slice-2.ensures at c.if-not-is_new.ensures in
-    let long = c.len.ensures ∙ c.args.term.now.arg_tys.ok.0 in (
+    let new = New-same_name (λ r. r.name) _ _ _ c.requires _
+    (any_from_yields_List _ _ _ _ c.any.ensures.ran (YieldsList-from_slice _ (rw c.as_slice.ensures.items at c.iter.ensures.rest)) (λ x b q k. search (rules, tests))) in
+    let few = c.len.ensures ∙ c.args.term.now.arg_tys.ok.0 in (
       (λ t. record {
-        named = c.if-not-is_symbol.ensures.0 refl;
-        few = omega (arith, long);
-        args = args.0 refl;
-        ret = c.if-not-is_type.ensures.0 refl;
-        new = new.0 refl;
+        named = c.if-not-has_record.ensures.0 refl;
+        few = omega (arith, few);
+        args = rw c.deref.ensures.value at (c.if-not-are_types.ensures.0 refl);
+        ret = c.if-not-has_record-2.ensures.0 refl;
+        new = new.0 (ap not c.if-any.false);
         template = c.has_good_template.ensures.0 t;
       }),
       (λ good. c.has_good_template.ensures.1 good.template),

@@ -1,5 +1,5 @@
 -- What names stand for.
-use Rattle.std.specs.Prelude.{ℕ, suc, Bool, cond, ◌&&◌, List, [], ◌∷◌, Some, None, Option, ◌==◌}
+use Rattle.std.specs.Prelude.{ℕ, Bool, ◌&&◌, List, Some, None, Option, ◌==◌, find, position}
 use Rattle.std.specs.Option.{option_map}
 use Rattle.std.specs.Str.{bytes_eq}
 use Rattle.records.specs.declared.env.Constant.{Constant}
@@ -12,32 +12,22 @@ use Rattle.records.specs.declared.ids.TypeId.{TypeId}
 use Rattle.records.specs.declared.result.Converter.{Converter}
 use Rattle.records.specs.declared.source.Name.{Name}
 use Rattle.records.specs.Parts.{bytes}
-use Rattle.tables.specs.View.{Env}
-
--- the number of the first item that passes a test
-abbrev pub first : {X : Type 0} → (X → Bool) → List X → Option ℕ
-first p [] = None
-first p (x ∷ xs) = cond (p x) (Some 0) (option_map suc (first p xs))
-
--- the first item that passes a test
-abbrev pub find : {X : Type 0} → (X → Bool) → List X → Option X
-find p [] = None
-find p (x ∷ xs) = cond (p x) (Some x) (find p xs)
+use Rattle.tables.specs.Tables.{Env}
 
 -- the symbol that has these bytes
 abbrev pub symbol_of : List ℕ → List Symbol → List ℕ → Option Sym
-symbol_of text symbols name = option_map (λ i. record { 0 = i }) (first (λ s. bytes_eq (bytes text s.name) name) symbols)
+symbol_of text symbols name = option_map (λ i. record { 0 = i }) (position (λ s. bytes_eq (bytes text s.name) name) symbols)
 
 abbrev pub same_sym : Sym → Sym → Bool
 same_sym s t = s.0 == t.0
 
 -- the type that the symbol names
 abbrev pub type_of : List Ty → Sym → Option TypeId
-type_of types sym = option_map (λ i. record { 0 = i }) (first (λ t. same_sym t.name sym) types)
+type_of types sym = option_map (λ i. record { 0 = i }) (position (λ t. same_sym t.name sym) types)
 
 -- the term that the symbol names
 abbrev pub term_of : List Term → Sym → Option TermId
-term_of terms sym = option_map (λ i. record { 0 = i }) (first (λ t. same_sym t.name sym) terms)
+term_of terms sym = option_map (λ i. record { 0 = i }) (position (λ t. same_sym t.name sym) terms)
 
 -- the type of the constant that the symbol names
 abbrev pub constant_of : List Constant → Sym → Option TypeId

@@ -4,7 +4,6 @@
 mod by_name;
 mod converters;
 mod names;
-mod search;
 mod symbols;
 
 pub use by_name::{term_by_name, type_by_name};

@@ -1,70 +1,43 @@
 // What a symbol names: types, constants and terms.
-ghost use Rattle.std.specs.Prelude.{◌≡◌};
+ghost use Rattle.std.specs.Prelude.{◌≡◌, ◌<◌, length, position, IfSome};
 ghost use Rattle.lookup.specs.Lookup.{same_sym, type_of, constant_of, term_of};
-ghost use Rattle.tables.specs.View.{env, view};
+ghost use Rattle.tables.specs.Tables.{env};
 
-use crate::search::{Test, find, position};
-use records::env::{Constant, Term, Type};
+use records::env::{Term, Type};
 use records::ids::{Sym, TermId, TypeId};
 use tables::Tables;
 
-#[derive(Drop)]
-struct TypeNamed(Sym);
-
-impl Test for TypeNamed {
-    type Item = Type;
-
-    ghost passes = { λ n t. same_sym t.name n.0 };
-
-    fn test(&self, ty: &Type) -> bool {
-        ty.name == self.0
-    }
+fn type_position(types: &[Type], name: Sym) -> Option<usize>
+    ensures first { result ≡ position (λ t. same_sym t.name name) types.now }
+    ensures within { IfSome result (λ i. i < length types.now) }
+{
+    types.iter().position(|ty| ty.name == name)
 }
 
-#[derive(Drop)]
-struct ConstantNamed(Sym);
-
-impl Test for ConstantNamed {
-    type Item = Constant;
-
-    ghost passes = { λ n c. same_sym c.name n.0 };
-
-    fn test(&self, constant: &Constant) -> bool {
-        constant.name == self.0
-    }
-}
-
-#[derive(Drop)]
-struct TermNamed(Sym);
-
-impl Test for TermNamed {
-    type Item = Term;
-
-    ghost passes = { λ n t. same_sym t.name n.0 };
-
-    fn test(&self, term: &Term) -> bool {
-        term.name == self.0
-    }
+// As `type_position`: a generic one would need a trait, with an impl for each of the two types.
+fn term_position(terms: &[Term], name: Sym) -> Option<usize>
+    ensures first { result ≡ position (λ t. same_sym t.name name) terms.now }
+    ensures within { IfSome result (λ i. i < length terms.now) }
+{
+    terms.iter().position(|term| term.name == name)
 }
 
 pub fn type_named(tables: &Tables, name: Sym) -> Option<TypeId>
-    ensures { result ≡ type_of (env (view tables.now)).types name }
+    ensures { result ≡ type_of (env tables.now).types name }
 {
-    let i = position(&TypeNamed(name), tables.types.as_slice())?;
-    Some(TypeId(i as u16))
+    type_position(tables.types.as_slice(), name).map(|i| TypeId(i as u16))
 }
 
 pub fn term_named(tables: &Tables, name: Sym) -> Option<TermId>
-    ensures { result ≡ term_of (env (view tables.now)).terms name }
+    ensures { result ≡ term_of (env tables.now).terms name }
 {
-    let i = position(&TermNamed(name), tables.terms.as_slice())?;
-    Some(TermId(i as u16))
+    term_position(tables.terms.as_slice(), name).map(|i| TermId(i as u16))
 }
 
 /// The type of the constant that has the name.
 pub fn constant_type(tables: &Tables, name: Sym) -> Option<TypeId>
-    ensures { result ≡ constant_of (env (view tables.now)).constants name }
+    ensures { result ≡ constant_of (env tables.now).constants name }
 {
-    let constant = find(&ConstantNamed(name), tables.constants.as_slice())?;
-    Some(constant.ty)
+    let constants = tables.constants.as_slice();
+    constants.iter().find(|c| c.name == name).map(|c| c.ty)
 }

@@ -1,6 +1,0 @@
-use Rattle.std.proofs.Common.{arith}
-use Rattle.lookup.proofs.Searches.{below_max}
-use Rattle.lookup.proofs.symbols.type_named.Goals as goal
-
-pub overflow_cast-result : goal.overflow_cast-result
-overflow_cast-result c = omega (arith, below_max _ c.args.tables.now.types _ _ c.as_slice.ensures c.in_ok-i.ensures)

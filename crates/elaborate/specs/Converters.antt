@@ -1,6 +1,6 @@
 -- Registering converters.
 use Rattle.std.specs.Prelude.{◌≡◌, ℕ, Some, None, Option}
-use Rattle.table.specs.Shelf.{Shelf, Told, refused, put}
+use Rattle.table.specs.Contents.{Contents, Outcome, refused, put}
 use Rattle.records.specs.declared.fault.Cause.TheVariants as cause
 use Rattle.records.specs.declared.ids.TermId.{TermId}
 use Rattle.records.specs.declared.ids.TypeId.{TypeId}
@@ -10,7 +10,8 @@ use Rattle.records.specs.declared.refusal.TableId.TheVariants as table
 use Rattle.records.specs.declared.result.Converter.{Converter}
 use Rattle.records.specs.declared.source.Part.{Part}
 use Rattle.tables.specs.Steps.{Step, onto}
-use Rattle.tables.specs.View.{View, env}
+use Rattle.tables.specs.Tables.{env}
+use Rattle.tables.specs.declared.Tables.{Tables}
 use Rattle.lookup.specs.Lookup.{Key, type_by_name, term_by_name, converter_of}
 use Rattle.definition.specs.Converters.{WritesConverter}
 use Rattle.definition.specs.Lawful.{FirstBad}
@@ -18,7 +19,7 @@ use Rattle.definition.specs.declared.converter.Converter.{Converter as Definitio
 use Rattle.definition.specs.declared.grammar.Kind.TheVariants as kind
 use Rattle.elaborate.specs.Faults.{report}
 
-abbrev pub with_converters : View → Shelf Converter → View
+abbrev pub with_converters : Tables → Contents Converter → Tables
 with_converters v s = record {
   text = v.text;
   types = v.types;
@@ -33,7 +34,7 @@ with_converters v s = record {
   converters = s;
   variables = v.variables;
   scopes = v.scopes;
-  expand = v.expand;
+  expand_internal_extractors = v.expand_internal_extractors;
 }
 
 -- one more converter; a full list refuses it
@@ -67,6 +68,6 @@ module _ (d : Definition) where
 -- What a call that names a part of the source list leaves and answers:
 -- a part that is no converter definition is refused, and nothing changes;
 -- a converter definition is registered, or its fault is reported.
-pub data Converts (p : Part) (v : View) (t : Told View (Unit {0}) Refusal) : Type 0 where
+pub data Converts (p : Part) (v : Tables) (t : Outcome Tables (Unit {0}) Refusal) : Type 0 where
   unlawful : (i : ℕ) → FirstBad kind.Converter v.source.items p i → t ≡ refused v (refusal.UnlawfulDefinition i) → Converts p v t
   lawful : (d : Definition) → WritesConverter v.source.items p d → t ≡ convert d v → Converts p v t

@@ -1,13 +1,13 @@
 -- The list of faults: what is wrong with a definition is reported at its place, and the elaboration goes on.
-use Rattle.table.specs.Shelf.{Shelf, put}
+use Rattle.table.specs.Contents.{Contents, put}
 use Rattle.records.specs.declared.fault.Cause.{Cause}
 use Rattle.records.specs.declared.fault.Fault.{Fault}
 use Rattle.records.specs.declared.refusal.TableId.TheVariants as table
 use Rattle.records.specs.declared.source.Pos.{Pos}
 use Rattle.tables.specs.Steps.{Step, onto}
-use Rattle.tables.specs.View.{View}
+use Rattle.tables.specs.declared.Tables.{Tables}
 
-abbrev pub with_faults : View → Shelf Fault → View
+abbrev pub with_faults : Tables → Contents Fault → Tables
 with_faults v s = record {
   text = v.text;
   types = v.types;
@@ -22,7 +22,7 @@ with_faults v s = record {
   converters = v.converters;
   variables = v.variables;
   scopes = v.scopes;
-  expand = v.expand;
+  expand_internal_extractors = v.expand_internal_extractors;
 }
 
 -- one more fault; a full list refuses it

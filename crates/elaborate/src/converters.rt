@@ -1,7 +1,7 @@
 // Registering converters.
 ghost use Rattle.std.specs.Prelude.{◌≡◌, OnErr};
-ghost use Rattle.table.specs.Shelf.{told};
-ghost use Rattle.tables.specs.View.{env, view};
+ghost use Rattle.table.specs.Contents.{outcome};
+ghost use Rattle.tables.specs.Tables.{env};
 ghost use Rattle.elaborate.specs.Converters.{add_converter, register, convert, Converts};
 ghost use Rattle.lookup.specs.Lookup.{converter_of};
 
@@ -17,7 +17,7 @@ use tables::Tables;
 
 /// One more converter, known by its inner and outer type.
 fn add(tables: &mut Tables, key: (TypeId, TypeId), term: TermId) -> Result<(), Refusal>
-    ensures { told (view tables.new) result ≡ add_converter key term (view tables.old) }
+    ensures { outcome tables.new result ≡ add_converter key term tables.old }
 {
     let (inner_ty, outer_ty) = key;
     let converter = Converter {
@@ -25,12 +25,12 @@ fn add(tables: &mut Tables, key: (TypeId, TypeId), term: TermId) -> Result<(), R
         outer_ty,
         term,
     };
-    match tables.converters.push(converter) {
-        Ok(()) => Ok(()),
-        Err(_) => Err(Refusal::Full {
+    tables
+        .converters
+        .push(converter)
+        .map_err(|_| Refusal::Full {
             table: TableId::Converters,
-        }),
-    }
+        })
 }
 
 /// Registers the term for the pair of types, unless the pair has a converter already.
@@ -40,7 +40,7 @@ fn register(
     key: (TypeId, TypeId),
     term: TermId,
 ) -> Result<(), Refusal>
-    ensures { told (view tables.new) result ≡ register definition key term (converter_of (view tables.old).converters.items key) (view tables.old) }
+    ensures { outcome tables.new result ≡ register definition key term (converter_of tables.old.converters.items key) tables.old }
 {
     match converter(tables, key) {
         Some(_) => report_error(
@@ -57,7 +57,7 @@ fn register(
 
 /// Resolves the names of a converter definition and registers it; what is unknown is a fault.
 fn convert(tables: &mut Tables, definition: Definition) -> Result<(), Refusal>
-    ensures { told (view tables.new) result ≡ convert definition (view tables.old) }
+    ensures { outcome tables.new result ≡ convert definition tables.old }
 {
     let Some(inner) = type_by_name(tables, definition.inner_ty.name) else {
         let name = definition.inner_ty.name;
@@ -88,9 +88,9 @@ fn convert(tables: &mut Tables, definition: Definition) -> Result<(), Refusal>
 
 /// Registers the converter definition that a part of the source list writes.
 pub(crate) fn convert_part(tables: &mut Tables, part: Part) -> Result<(), Refusal>
-    ensures meaning { Converts part (view tables.old) (told (view tables.new) result) }
-    ensures unchanged { OnErr result (view tables.new ≡ view tables.old) }
-    ensures env { env (view tables.new) ≡ env (view tables.old) }
+    ensures meaning { Converts part tables.old (outcome tables.new result) }
+    ensures unchanged { OnErr result (tables.new ≡ tables.old) }
+    ensures env { env tables.new ≡ env tables.old }
 {
     let definition = Definition::read(tables.source.as_slice(), part)?;
     convert(tables, definition)

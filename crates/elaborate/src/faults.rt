@@ -1,7 +1,6 @@
 // The list of faults.
 ghost use Rattle.std.specs.Prelude.{◌≡◌};
-ghost use Rattle.table.specs.Shelf.{told};
-ghost use Rattle.tables.specs.View.{view};
+ghost use Rattle.table.specs.Contents.{outcome};
 ghost use Rattle.elaborate.specs.Faults.{report};
 
 use records::fault::{Cause, Fault};
@@ -11,12 +10,12 @@ use tables::Tables;
 
 /// Reports a fault at its place.
 pub(crate) fn report_error(tables: &mut Tables, pos: Pos, cause: Cause) -> Result<(), Refusal>
-    ensures { told (view tables.new) result ≡ report cause pos (view tables.old) }
+    ensures { outcome tables.new result ≡ report cause pos tables.old }
 {
-    match tables.faults.push(Fault { cause, pos }) {
-        Ok(()) => Ok(()),
-        Err(_) => Err(Refusal::Full {
+    tables
+        .faults
+        .push(Fault { cause, pos })
+        .map_err(|_| Refusal::Full {
             table: TableId::Faults,
-        }),
-    }
+        })
 }

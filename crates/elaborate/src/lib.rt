@@ -5,8 +5,7 @@ mod closing;
 mod converters;
 mod faults;
 mod opening;
-mod ruling;
 mod stages;
 
 pub use opening::open;
-pub use stages::{Opening, Ruling};
+pub use stages::{Opening, Ruling, Stage, TakesConverters, TakesRules};

@@ -1,6 +1,6 @@
 use Rattle.std.proofs.Common.{sym, subst}
 use Rattle.tables.specs.Lawful.{Lawful}
-use Rattle.tables.specs.View.{env}
+use Rattle.tables.specs.Tables.{env}
 use Rattle.elaborate.proofs.opening.open.Goals as goal
 
 -- what is taken back is no part of the environment

@@ -1,6 +1,6 @@
 use Rattle.std.proofs.Common.{sym, subst}
 use Rattle.tables.specs.Lawful.{Lawful}
-use Rattle.elaborate.proofs.stages.Opening.converter.Goals as goal
+use Rattle.elaborate.proofs.closing.Opening.converter.Goals as goal
 
 -- the call leaves the environment as it was
 pub invariant_of-self : goal.invariant_of-self

@@ -29,6 +29,18 @@ fn print_refusal(output: &mut String, call: &str, refusal: Refusal) -> Result<()
     }
 }
 
+/// What a call answers: its refusal, if it was refused.
+fn print_answer(
+    output: &mut String,
+    call: &str,
+    refusal: Option<Refusal>,
+) -> Result<(), AllocError> {
+    match refusal {
+        Some(refusal) => print_refusal(output, call, refusal),
+        None => writeln!(output, "{call} ok"),
+    }
+}
+
 impl Stage {
     /// The tables; whatever stage there was is over.
     fn into_tables(self) -> Tables {
@@ -40,39 +52,28 @@ impl Stage {
     }
 
     fn open(self, output: &mut String) -> Result<Stage, AllocError> {
-        match open(self.into_tables()) {
-            Ok(opening) => {
-                writeln!(output, "open ok")?;
-                Ok(Stage::Opening(opening))
-            }
-            Err((tables, refusal)) => {
-                print_refusal(output, "open", refusal)?;
-                Ok(Stage::Unopened(tables))
-            }
-        }
+        let (stage, refusal) = match open(self.into_tables()) {
+            Ok(opening) => (Stage::Opening(opening), None),
+            Err((tables, refusal)) => (Stage::Unopened(tables), Some(refusal)),
+        };
+        print_answer(output, "open", refusal)?;
+        Ok(stage)
     }
 
     fn converter(&mut self, part: Part, output: &mut String) -> Result<(), AllocError> {
         let Stage::Opening(opening) = self else {
             return writeln!(output, "converter order");
         };
-        match opening.converter(part) {
-            Ok(()) => writeln!(output, "converter ok"),
-            Err(refusal) => print_refusal(output, "converter", refusal),
-        }
+        print_answer(output, "converter", opening.converter(part).err())
     }
 
     fn close(self, output: &mut String) -> Result<Stage, AllocError> {
-        match self {
-            Stage::Opening(opening) => {
-                writeln!(output, "close ok")?;
-                Ok(Stage::Ruling(opening.close()))
-            }
-            other => {
-                writeln!(output, "close order")?;
-                Ok(other)
-            }
-        }
+        let (stage, answer) = match self {
+            Stage::Opening(opening) => (Stage::Ruling(opening.close()), "ok"),
+            other => (other, "order"),
+        };
+        writeln!(output, "close {answer}")?;
+        Ok(stage)
     }
 
     /// A call that follows closing, and is not there yet.
@@ -99,6 +100,19 @@ impl Stage {
         }
     }
 
+    /// A line that leaves the stage as it is.
+    fn stay(&mut self, heap: Global, line: &Line<'_>, output: &mut String) -> Result<(), Stop> {
+        match line.item {
+            Item::Converter { part } => self.converter(part, output)?,
+            Item::Rule { .. } => self.later("rule", output)?,
+            Item::Finish => self.later("finish", output)?,
+            Item::Run { .. } => self.later("run", output)?,
+            Item::Dump => self.dump(output)?,
+            _ => self.fill(heap, line)?,
+        }
+        Ok(())
+    }
+
     /// One line: the environment is filled, a call is performed.
     pub(crate) fn step(
         mut self,
@@ -107,16 +121,13 @@ impl Stage {
         output: &mut String,
     ) -> Result<Stage, Stop> {
         match line.item {
-            Item::Open => return Ok(self.open(output)?),
-            Item::Converter { part } => self.converter(part, output)?,
-            Item::Close => return Ok(self.close(output)?),
-            Item::Rule { .. } => self.later("rule", output)?,
-            Item::Finish => self.later("finish", output)?,
-            Item::Run { .. } => self.later("run", output)?,
-            Item::Dump => self.dump(output)?,
-            _ => self.fill(heap, line)?,
+            Item::Open => Ok(self.open(output)?),
+            Item::Close => Ok(self.close(output)?),
+            _ => {
+                self.stay(heap, line, output)?;
+                Ok(self)
+            }
         }
-        Ok(self)
     }
 }
 

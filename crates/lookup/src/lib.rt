@@ -1,4 +1,5 @@
 // Looking up what names stand for: symbols by their bytes; types, constants and terms by their symbol; converters by their pair of types.
+// Each looks through its table from the front: a map would claim memory after the tables are made.
 #![tactic(auto)]
 
 mod by_name;

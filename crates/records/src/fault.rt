@@ -119,7 +119,7 @@ pub enum Cause {
 }
 
 impl Cause {
-    /// The number by which the cause is known.
+    /// The number by which hosts and case files know the cause.
     pub fn number(self) -> u8
         ensures { result ≡ cause_number self }
     {

@@ -1,4 +1,5 @@
-// Numbers that name a record of one table.
+// Numbers that name a record of one table: a type for each table, so that none is taken for another.
+// One generic type would need a marker for each of them, and would be no plainer.
 
 /// A symbol: the number of a name. Equal bytes are one symbol.
 #[derive(Clone, Copy, PartialEq, Eq)]

@@ -75,7 +75,7 @@ pub enum Refusal {
     UnlawfulRow { row: usize },
 }
 
-/// What a refusal returns: its number, and the values that go with it.
+/// What a refusal returns: its number, and the values that go with it. Hosts and case files know refusals by these numbers.
 #[derive(Clone, Copy)]
 pub struct Report {
     pub number: u8,

@@ -17,7 +17,7 @@ pub struct Pos {
     pub offset: u32,
 }
 
-/// A part of a list: the records from `start` up to `end`, which is not in it.
+/// A part of a list: the records from `start` up to `end`, which is not in it. Numbers and no slice, since callers hand it over and lists go on growing.
 #[derive(Clone, Copy)]
 pub struct Part {
     pub start: u32,
@@ -123,6 +123,7 @@ pub enum Node {
 }
 
 /// A record of the source list. Its size counts itself and all below it.
+/// A tree is a part of the list and no `Box` of children: tables claim their memory once, and trees may be nested as deep as the list is long.
 #[derive(Clone, Copy)]
 pub struct Source {
     pub node: Node,

@@ -120,6 +120,7 @@ impl Stage {
         line: &Line<'_>,
         output: &mut String,
     ) -> Result<Stage, Stop> {
+        // A match, since what a call does to the stage differs by call.
         match line.item {
             Item::Open => Ok(self.open(output)?),
             Item::Close => Ok(self.close(output)?),

@@ -21,6 +21,7 @@ fn type_text(tables: &Tables, ty: TypeId) -> &str {
     ty.map_or("?", |ty| symbol_text(tables, ty.name))
 }
 
+// As `type_text`: one for both would need a trait with an impl for each number.
 fn term_text(tables: &Tables, term: TermId) -> &str {
     let term = tables.terms.get(term.0 as usize);
     term.map_or("?", |term| symbol_text(tables, term.name))

@@ -12,7 +12,7 @@ mod methods;
 #[derive(Clone, Copy)]
 pub struct Full;
 
-/// A list of at most `limit` items, with `limit` at most `MAX`. After it is made it never allocates.
+/// A list of at most `limit` items, with `limit` at most `MAX`. After it is made it never allocates: a `Vec` without a limit would.
 #[derive(Drop)]
 pub struct Table<T, const MAX: usize> {
     items: Vec<T>,

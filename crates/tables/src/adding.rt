@@ -35,6 +35,7 @@ impl Tables {
         })
     }
 
+    // As `add_symbol`: one for both would need a trait with an impl for each record, and would be no plainer.
     pub fn add_type(&mut self, ty: Type) -> Result<(), Refusal>
         ensures { outcome self.new result ≡ add_type ty self.old }
     {
@@ -57,6 +58,7 @@ impl Tables {
     pub fn add_builtins(&mut self) -> Result<(), Refusal>
         ensures { outcome self.new result ≡ add_builtins 0 builtin_names self.old }
     {
+        // The number is what a built-in type is known by, so there is no list to go through.
         for i in 0..BUILTINS {
             self.add_builtin(i)?;
         }

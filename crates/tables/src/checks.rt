@@ -12,6 +12,7 @@ impl Tables {
     fn keeps(&self, table: TableId, i: usize) -> bool
         ensures { IsTrue result ↔ Keeps (env self.now) table i }
     {
+        // A match: each table has a rule of its own, and a closure for each would say no more.
         match table {
             TableId::Types => self
                 .types
@@ -55,6 +56,7 @@ impl Tables {
     fn first_bad(&self, table: TableId) -> Option<usize>
         ensures { MatchOption result ((j : ℕ) → Keeps (env self.now) table j) (λ i. ((j : ℕ) → j < i → Keeps (env self.now) table j) × (Keeps (env self.now) table i → ⊥)) }
     {
+        // A `for`, since the number is the answer: `find` over the numbers was tried, and its proof did not close.
         for i in 0..self.looked_at(table) {
             if !self.keeps(table, i) {
                 return Some(i);

@@ -47,6 +47,7 @@ pub fn words<'a>(heap: Global, line: &'a str) -> Result<Vec<Word<'a>>, AllocErro
     let mut start = 0;
     for text in line.split(' ') {
         words.push(Word { start, text })?;
+        // `split` gives pieces and no places, so the place is counted along.
         start += text.len() + 1;
     }
     Ok(words)

@@ -150,10 +150,9 @@ impl FromWord for Name {
 
     #[tactic(auto, unfolding(crate::specs::Fields::name))]
     fn from_word(word: Word<'_>) -> Result<Name, Malformed> {
-        match (u32::try_from(word.start), u32::try_from(word.text.len())) {
-            (Ok(start), Ok(len)) => Ok(Name { start, len }),
-            _ => Err(Malformed::FarName),
-        }
+        let start = u32::try_from(word.start).map_err(|_| Malformed::FarName)?;
+        let len = u32::try_from(word.text.len()).map_err(|_| Malformed::FarName)?;
+        Ok(Name { start, len })
     }
 }
 

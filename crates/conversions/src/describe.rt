@@ -6,6 +6,7 @@ use std::alloc::{AllocError, Global};
 use std::io;
 use tables::Tables;
 
+// This function and the two after it stand in `joinery` too: shared, they would be public, with a contract each.
 /// The bytes of a name as text.
 fn name_text(tables: &Tables, name: Name) -> &str {
     std::str::from_utf8(name.bytes(tables.text.as_slice())).unwrap_or("?")
@@ -21,7 +22,7 @@ fn type_text(tables: &Tables, ty: TypeId) -> &str {
     ty.map_or("?", |ty| symbol_text(tables, ty.name))
 }
 
-// As `type_text`: one for both would need a trait with an impl for each number.
+// As `type_text`: one for both would be given the list and how its record is named, and would be no plainer.
 fn term_text(tables: &Tables, term: TermId) -> &str {
     let term = tables.terms.get(term.0 as usize);
     term.map_or("?", |term| symbol_text(tables, term.name))

@@ -15,6 +15,7 @@ use records::result::Converter;
 use records::source::Part;
 use tables::Tables;
 
+// As `add_type` of `Tables`: one function for all tables would be no plainer.
 /// One more converter, known by its inner and outer type.
 fn add(tables: &mut Tables, key: (TypeId, TypeId), term: TermId) -> Result<(), Refusal>
     ensures { outcome tables.new result ≡ add_converter key term tables.old }

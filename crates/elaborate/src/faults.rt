@@ -8,6 +8,7 @@ use records::refusal::{Refusal, TableId};
 use records::source::Pos;
 use tables::Tables;
 
+// As `add_type` of `Tables`: one function for all tables would be no plainer.
 /// Reports a fault at its place.
 pub(crate) fn report_error(tables: &mut Tables, pos: Pos, cause: Cause) -> Result<(), Refusal>
     ensures { outcome tables.new result ≡ report cause pos tables.old }

@@ -7,6 +7,7 @@ use std::alloc::{AllocError, Global};
 use std::io;
 use tables::Tables;
 
+// This function and the two after it stand in `conversions` too: shared, they would be public, with a contract each.
 /// The bytes of a name as text.
 fn name_text(tables: &Tables, name: Name) -> &str {
     std::str::from_utf8(name.bytes(tables.text.as_slice())).unwrap_or("?")

@@ -11,7 +11,7 @@ use elaborate::open;
 use environment::joinery;
 use records::refusal::{Refusal, Report, Values};
 
-/// The number of a refusal and what it returned. Each program words it by itself: one wording for all would be the API of a library.
+/// The number of a refusal and what it returned. `conversions` has the same: shared, its wording would be the promise of a library.
 fn print_refusal(rt: &impl Print, refusal: Refusal) -> anyhow::Result<()> {
     let Report { number, values } = refusal.report();
     match values {

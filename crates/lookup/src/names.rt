@@ -10,6 +10,7 @@ use records::ids::Sym;
 use records::source::Name;
 use tables::Tables;
 
+// A function of its own: with `map` behind `position` in one function the proof did not close.
 fn symbol_position(text: &[u8], symbols: &[Symbol], bytes: &[u8]) -> Option<usize>
     ensures first { result ≡ position (λ s. bytes_eq (bytes_of text.now s.name) bytes.now) symbols.now }
     ensures within { IfSome result (λ i. i < length symbols.now) }

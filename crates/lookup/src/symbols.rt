@@ -7,6 +7,7 @@ use records::env::{Term, Type};
 use records::ids::{Sym, TermId, TypeId};
 use tables::Tables;
 
+// A function of its own: with `map` behind `position` in one function the proof did not close.
 fn type_position(types: &[Type], name: Sym) -> Option<usize>
     ensures first { result ≡ position (λ t. same_sym t.name name) types.now }
     ensures within { IfSome result (λ i. i < length types.now) }
@@ -14,7 +15,7 @@ fn type_position(types: &[Type], name: Sym) -> Option<usize>
     types.iter().position(|ty| ty.name == name)
 }
 
-// As `type_position`: a generic one would need a trait, with an impl for each of the two types.
+// As `type_position`. The generic one is `position` of the library: these two only say what it finds.
 fn term_position(terms: &[Term], name: Sym) -> Option<usize>
     ensures first { result ≡ position (λ t. same_sym t.name name) terms.now }
     ensures within { IfSome result (λ i. i < length terms.now) }

@@ -119,7 +119,7 @@ pub enum Cause {
 }
 
 impl Cause {
-    /// The number by which hosts and case files know the cause.
+    /// The number by which hosts and case files know the cause. A cause holds values, so it has no number of its own.
     pub fn number(self) -> u8
         ensures { result ≡ cause_number self }
     {

@@ -3,7 +3,7 @@ ghost use Rattle.std.specs.Prelude.{◌≡◌, take, drop};
 ghost use Rattle.records.specs.Parts.{bytes, slice};
 ghost use Rattle.records.specs.Patterns.{pattern_counts};
 
-/// A name's bytes: a part of the text.
+/// A name's bytes: a part of the text, by place and length and no `&str`, as a `Part` is of a list.
 #[derive(Clone, Copy)]
 pub struct Name {
     pub start: u32,

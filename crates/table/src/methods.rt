@@ -18,13 +18,15 @@ impl<T, const MAX: usize> Table<T, MAX> {
     }
 
     pub fn limit(&self) -> usize
-        ensures { result ≡ self.now.limit }
+        ensures value { result ≡ self.now.limit }
+        ensures bound { result ≤ MAX }
     {
         self.limit
     }
 
     pub fn len(&self) -> usize
         ensures value { result ≡ length self.now.items }
+        ensures few { result ≤ self.now.limit }
         ensures bound { result ≤ MAX }
     {
         self.items.len()

@@ -23,6 +23,7 @@ impl Tables {
             })?;
         Ok(Name {
             start: start as u32,
+            // By the table, whose maximum bounds it.
             len: (self.text.len() - start) as u32,
         })
     }
@@ -35,7 +36,7 @@ impl Tables {
         })
     }
 
-    // As `add_symbol`: one for both would need a trait with an impl for each record, and would be no plainer.
+    // Not one function with `add_symbol`: it would be given the table and its name both, and say no more than `push` with `map_err` does.
     pub fn add_type(&mut self, ty: Type) -> Result<(), Refusal>
         ensures { outcome self.new result ≡ add_type ty self.old }
     {

@@ -42,6 +42,7 @@ impl Tables {
     fn looked_at(&self, table: TableId) -> usize
         ensures { (j : ℕ) → result ≤ j → Keeps (env self.now) table j }
     {
+        // A match, as in `keeps`.
         match table {
             TableId::Types => self.types.len().max(BUILTINS),
             TableId::Constants => self.constants.len(),

@@ -133,6 +133,7 @@ impl Stage {
     }
 }
 
+// A match of its own: what class a line has is private to `items`, and making it public for this one test would be no plainer.
 /// Whether the line is a call.
 pub(crate) fn is_call(item: Item) -> bool {
     matches!(

@@ -4,6 +4,7 @@ use records::fault::Cause;
 use std::alloc::AllocError;
 use tables::Tables;
 
+// Three functions, by the number of values: one for all causes would be too long to be read.
 /// The values of a cause, each behind a space.
 pub(crate) fn write_values(
     output: &mut String,

@@ -13,6 +13,7 @@ struct Setup {
     expand: bool,
 }
 
+// A match, since each limit is a field of its own.
 /// A limit as a number of records: whatever is over every maximum counts as much as the largest.
 fn set_limit(limits: &mut Limits, table: TableId, limit: u64) {
     let limit = limit as usize;

@@ -56,6 +56,7 @@ fn register(
     }
 }
 
+// The three names are written out: they differ in look-up and cause, and a common function would be given two closures for each.
 /// Resolves the names of a converter definition and registers it; what is unknown is a fault.
 fn convert(tables: &mut Tables, definition: Definition) -> Result<(), Refusal>
     ensures { outcome tables.new result ≡ convert definition tables.old }

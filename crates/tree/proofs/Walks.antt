@@ -1,15 +1,10 @@
 -- The walk back from a root over the trees in front of it, and what it decides.
-use Rattle.std.proofs.Common.{◌≡◌, ℕ, ◌+◌, ◌-◌, ◌<◌, ◌≤◌, ◌↔◌, true, false, ◌==◌, List, [], ◌∷◌, ◌++◌, length, get_or, take, drop, IsTrue, sym, ap, ◌∙◌, arith}
+use Rattle.std.proofs.Common.{◌≡◌, ℕ, ◌+◌, ◌-◌, ◌<◌, ◌≤◌, ◌↔◌, true, ◌==◌, List, [], ◌∷◌, ◌++◌, length, get_or, take, drop, sym, ap, ◌∙◌, arith}
 use Rattle.std.proofs.lemmas.List.{append_assoc, length-append, length_push, same_from_push, take_at, take-append-drop, length-take-le}
 use Rattle.std.proofs.lemmas.Grind.{common_steps}
 use Rattle.std.proofs.lemmas.Bool.Decides.{nat_tests}
-use Rattle.std.proofs.lemmas.Bool.{false≢true}
 use Rattle.tree.specs.Layout.{Forest, none, next, flat, Rules, empty, Below, Lawful, IsForest}
 use Rattle.tree.proofs.Forests.{split_same, flat_next, length_next, last_tree}
-
--- a test that failed decides what does not hold
-pub refuted : {P : Type 0} → (P → ⊥) → (IsTrue false ↔ P)
-refuted n = (λ e. absurd (false≢true e), λ p. absurd (n p))
 
 -- the list lays out trees that may stand below r, where `after` more stand there after them
 abbrev pub MayStand : {N : Type 0} → Rules N → N → ℕ → List N → Type 0

@@ -57,13 +57,7 @@ impl Tables {
     fn first_bad(&self, table: TableId) -> Option<usize>
         ensures { MatchOption result ((j : ℕ) → Keeps (env self.now) table j) (λ i. ((j : ℕ) → j < i → Keeps (env self.now) table j) × (Keeps (env self.now) table i → ⊥)) }
     {
-        // A `for`, since the number is the answer: `find` over the numbers was tried, and its proof did not close.
-        for i in 0..self.looked_at(table) {
-            if !self.keeps(table, i) {
-                return Some(i);
-            }
-        }
-        None
+        (0..self.looked_at(table)).find(|i| !self.keeps(table, *i))
     }
 
     /// Whether the tables are lawful; if not, which table breaks a rule first, and at which record.

@@ -2,7 +2,7 @@
 ghost use Rattle.std.specs.Prelude.{◌≡◌, ◌<◌, ◌↔◌, [], length, Some, IsTrue, slice_index_or};
 ghost use Rattle.std.specs.List.{AllByRecursion, slice_get};
 ghost use Rattle.tables.specs.Lawful.{IsType, TypeGood, ConstantGood, TemplateGood, TermGood, SourceGood, SymbolGood, builtin_type, template_of};
-ghost use Rattle.tables.specs.Names.{Inside, builtin_names};
+ghost use Rattle.tables.specs.Names.{builtin_names};
 ghost use Rattle.tables.specs.Tables.{env};
 
 use crate::Tables;

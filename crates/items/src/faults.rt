@@ -2,49 +2,36 @@
 ghost use Rattle.std.specs.Prelude.{◌≡◌};
 ghost use Rattle.items.specs.Faults.{number_fault};
 
-use std::error::Error;
-use std::fmt;
+use thiserror::Error;
 use words::NumberFault;
 
-#[derive(Clone, Copy, Debug, PartialEq, Eq)]
+#[derive(Clone, Copy, Debug, PartialEq, Eq, Error)]
 pub enum Malformed {
     /// Two spaces in a row, or a space at an end of the line.
+    #[error("an empty word")]
     EmptyWord,
-    /// No line begins with that word.
+    #[error("no line begins so")]
     UnknownLine,
-    /// A tag, a kind or a flag that there is not.
+    #[error("an unknown tag, kind or flag")]
     UnknownWord,
+    #[error("a word is missing")]
     MissingWord,
+    #[error("a word too many")]
     SurplusWord,
+    #[error("not a number")]
     NotANumber,
     /// A number over the largest that the place allows.
+    #[error("a number that does not fit")]
     DoesNotFit,
     /// A name of more than 32 bits, or one that begins behind as many bytes.
+    #[error("a name beyond 32 bits")]
     FarName,
-    /// An environment line behind the first call.
+    #[error("an environment line behind the first call")]
     AfterCall,
     /// A host's row with no host of its kind before it, or with a call between.
+    #[error("no host here that takes this row")]
     NoHost,
 }
-
-impl fmt::Display for Malformed {
-    fn fmt<W: fmt::Write>(&self, f: &mut fmt::Formatter<W>) -> fmt::Result {
-        f.write_str(match self {
-            Malformed::EmptyWord => "an empty word",
-            Malformed::UnknownLine => "no line begins so",
-            Malformed::UnknownWord => "an unknown tag, kind or flag",
-            Malformed::MissingWord => "a word is missing",
-            Malformed::SurplusWord => "a word too many",
-            Malformed::NotANumber => "not a number",
-            Malformed::DoesNotFit => "a number that does not fit",
-            Malformed::FarName => "a name beyond 32 bits",
-            Malformed::AfterCall => "an environment line behind the first call",
-            Malformed::NoHost => "no host here that takes this row",
-        })
-    }
-}
-
-impl Error for Malformed {}
 
 impl From<NumberFault> for Malformed {
     ghost from_gives = { λ fault e. e ≡ number_fault fault };

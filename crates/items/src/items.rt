@@ -4,6 +4,7 @@ use records::ids::{RuleId, Sym, TermId, TypeId};
 use records::refusal::TableId;
 use records::source::{Name, Part, Source};
 
+// It holds no list, so that reading a line claims no memory: arguments are named by their place in the line.
 /// One line. Its names are parts of the line; where it ends in arguments, `args` is the number of the word that they begin at.
 #[derive(Clone, Copy)]
 pub enum Item {

@@ -26,28 +26,32 @@ enum Class {
     Call,
 }
 
-fn find_class(item: Item) -> Class
-    ensures { result ≡ class_of item }
-{
-    match item {
-        Item::Limit { .. }
-        | Item::Expand { .. }
-        | Item::Symbol { .. }
-        | Item::Type { .. }
-        | Item::Const { .. }
-        | Item::Term { .. }
-        | Item::Source { .. } => Class::Environment,
-        Item::Host { kind } => Class::Host(kind),
-        Item::Row { .. } => Class::Row(HostKind::Measure),
-        Item::Code { .. } | Item::Make { .. } | Item::Lit { .. } => Class::Row(HostKind::Listed),
-        Item::Sign { .. } => Class::Sign,
-        Item::Open
-        | Item::Converter { .. }
-        | Item::Close
-        | Item::Rule { .. }
-        | Item::Finish
-        | Item::Run { .. }
-        | Item::Dump => Class::Call,
+impl From<Item> for Class {
+    ghost from_gives = { λ item class. class ≡ class_of item };
+
+    fn from(item: Item) -> Class {
+        match item {
+            Item::Limit { .. }
+            | Item::Expand { .. }
+            | Item::Symbol { .. }
+            | Item::Type { .. }
+            | Item::Const { .. }
+            | Item::Term { .. }
+            | Item::Source { .. } => Class::Environment,
+            Item::Host { kind } => Class::Host(kind),
+            Item::Row { .. } => Class::Row(HostKind::Measure),
+            Item::Code { .. } | Item::Make { .. } | Item::Lit { .. } => {
+                Class::Row(HostKind::Listed)
+            }
+            Item::Sign { .. } => Class::Sign,
+            Item::Open
+            | Item::Converter { .. }
+            | Item::Close
+            | Item::Rule { .. }
+            | Item::Finish
+            | Item::Run { .. }
+            | Item::Dump => Class::Call,
+        }
     }
 }
 
@@ -62,7 +66,7 @@ impl Place {
     pub fn after(self, item: Item) -> Result<Place, Malformed>
         ensures { result ≡ next self (class_of item) }
     {
-        match find_class(item) {
+        match Class::from(item) {
             Class::Environment if self.called => Err(Malformed::AfterCall),
             Class::Environment => Ok(self),
             Class::Host(kind) => Ok(Place {

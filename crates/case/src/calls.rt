@@ -1,20 +1,12 @@
 // Lines of calls.
 ghost use Rattle.std.specs.Prelude.{◌≡◌};
-ghost use Rattle.case.specs.Lines.{lone, part_at, run_line};
+ghost use Rattle.case.specs.Lines.{part_at, run_line};
 
 use crate::fields::{check_count, check_each, check_least, field};
 use items::{Item, Malformed};
 use records::ids::RuleId;
 use records::source::Part;
 use words::Word;
-
-/// A call that is one word.
-pub(crate) fn alone(words: &[Word<'_>], item: Item) -> Result<Item, Malformed>
-    ensures { result ≡ lone item words.now }
-{
-    check_count(words, 1)?;
-    Ok(item)
-}
 
 /// `CALL START END`
 pub(crate) fn read_part(words: &[Word<'_>]) -> Result<Part, Malformed>

@@ -1,8 +1,8 @@
 // The words of a line, each by its number, and what a word may say.
-ghost use Rattle.std.specs.Prelude.{◌≡◌, ◌≤◌, length, Result, IfOk, OnOk};
+ghost use Rattle.std.specs.Prelude.{◌≡◌, ◌≤◌, length, Ok, Result, IfOk, OnOk};
 ghost use Rattle.words.specs.Cut.{Seen, seen};
 ghost use Rattle.items.specs.declared.faults.Malformed.{Malformed};
-ghost use Rattle.case.specs.Fields.{word, exactly, at_least, number, short, wide, long, integer, flag, table, dash, optional, name, each, filled};
+ghost use Rattle.case.specs.Fields.{bind, word, exactly, at_least, number, short, wide, long, integer, flag, table, dash, optional, name, each, filled};
 
 use items::Malformed;
 use records::refusal::TableId;
@@ -64,6 +64,14 @@ pub(crate) fn check_count(words: &[Word<'_>], count: usize) -> Result<(), Malfor
         return Err(Malformed::SurplusWord);
     }
     Ok(())
+}
+
+/// A value that the line has said by now, if it ends there.
+pub(crate) fn ending<T: Copy>(words: &[Word<'_>], count: usize, value: T) -> Result<T, Malformed>
+    ensures { result ≡ bind (exactly count words.now) (λ _. Ok value) }
+{
+    check_count(words, count)?;
+    Ok(value)
 }
 
 /// Whether no word is empty.

@@ -8,6 +8,7 @@ use records::env::{ConstructorKind, ExtractorKind, TermFlags, TypeKind};
 use records::source::Part;
 use words::Word;
 
+// An enum, though only one `match` reads it: a line's first word is then read by `FromWord`, as every other word of a kind.
 /// What a line begins with.
 #[derive(Drop)]
 pub(crate) enum Keyword {
@@ -68,6 +69,7 @@ pub(crate) enum Tag {
     Converter,
 }
 
+// An enum of its own, as `Keyword`.
 /// The kind of a term.
 #[derive(Drop)]
 pub(crate) enum TermTag {
@@ -76,6 +78,7 @@ pub(crate) enum TermTag {
     Decl,
 }
 
+// An enum of its own, as `Keyword`.
 #[derive(Drop)]
 pub(crate) enum LiteralKind {
     Bool,

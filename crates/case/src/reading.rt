@@ -2,9 +2,9 @@
 ghost use Rattle.std.specs.Prelude.{◌≡◌};
 ghost use Rattle.case.specs.Format.{line, item};
 
-use crate::calls::{alone, read_part, run};
+use crate::calls::{read_part, run};
 use crate::environment::{constant, expand, limit, symbol, term, ty};
-use crate::fields::{check_filled, field};
+use crate::fields::{check_filled, ending, field};
 use crate::hosts::{code, host, lit, make, row, sign};
 use crate::kinds::Keyword;
 use crate::sources::source;
@@ -28,17 +28,17 @@ fn read_line(words: &[Word<'_>], keyword: Keyword) -> Result<Item, Malformed>
         Keyword::Make => make(words),
         Keyword::Lit => lit(words),
         Keyword::Sign => sign(words),
-        Keyword::Open => alone(words, Item::Open),
+        Keyword::Open => ending(words, 1, Item::Open),
         Keyword::Converter => Ok(Item::Converter {
             part: read_part(words)?,
         }),
-        Keyword::Close => alone(words, Item::Close),
+        Keyword::Close => ending(words, 1, Item::Close),
         Keyword::Rule => Ok(Item::Rule {
             part: read_part(words)?,
         }),
-        Keyword::Finish => alone(words, Item::Finish),
+        Keyword::Finish => ending(words, 1, Item::Finish),
         Keyword::Run => run(words),
-        Keyword::Dump => alone(words, Item::Dump),
+        Keyword::Dump => ending(words, 1, Item::Dump),
     }
 }
 

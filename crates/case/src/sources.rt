@@ -2,7 +2,7 @@
 ghost use Rattle.std.specs.Prelude.{◌≡◌};
 ghost use Rattle.case.specs.Sources.{only, pattern, expr, let_def, rule_head, node, source_line};
 
-use crate::fields::{FromWord, check_count, check_least, field};
+use crate::fields::{FromWord, check_count, check_least, ending, field};
 use crate::kinds::{ExprTag, PatternTag, Tag};
 use items::{Item, Malformed};
 use records::source::{Expr, Node, Pattern, Pos, Source};
@@ -26,14 +26,8 @@ fn read_pattern(words: &[Word<'_>], tag: PatternTag) -> Result<Pattern, Malforme
         PatternTag::Int => Ok(Pattern::ConstInt { val: only(words)? }),
         PatternTag::Const => Ok(Pattern::ConstPrim { val: only(words)? }),
         PatternTag::Term => Ok(Pattern::Term { sym: only(words)? }),
-        PatternTag::Wild => {
-            check_count(words, 5)?;
-            Ok(Pattern::Wildcard)
-        }
-        PatternTag::And => {
-            check_count(words, 5)?;
-            Ok(Pattern::And)
-        }
+        PatternTag::Wild => ending(words, 5, Pattern::Wildcard),
+        PatternTag::And => ending(words, 5, Pattern::And),
         PatternTag::Arg => Ok(Pattern::MacroArg {
             index: only(words)?,
         }),
@@ -49,10 +43,7 @@ fn read_expr(words: &[Word<'_>], tag: ExprTag) -> Result<Expr, Malformed>
         ExprTag::Bool => Ok(Expr::ConstBool { val: only(words)? }),
         ExprTag::Int => Ok(Expr::ConstInt { val: only(words)? }),
         ExprTag::Const => Ok(Expr::ConstPrim { val: only(words)? }),
-        ExprTag::Let => {
-            check_count(words, 5)?;
-            Ok(Expr::Let)
-        }
+        ExprTag::Let => ending(words, 5, Expr::Let),
     }
 }
 
@@ -85,16 +76,10 @@ fn read_node(words: &[Word<'_>], tag: Tag) -> Result<Node, Malformed>
         Tag::Pattern(tag) => Ok(Node::Pattern(read_pattern(words, tag)?)),
         Tag::Expr(tag) => Ok(Node::Expr(read_expr(words, tag)?)),
         Tag::Def => read_def(words),
-        Tag::IfLet => {
-            check_count(words, 5)?;
-            Ok(Node::IfLet)
-        }
+        Tag::IfLet => ending(words, 5, Node::IfLet),
         Tag::Rule => read_rule(words),
         Tag::Name => Ok(Node::Ident { name: only(words)? }),
-        Tag::Converter => {
-            check_count(words, 5)?;
-            Ok(Node::Converter)
-        }
+        Tag::Converter => ending(words, 5, Node::Converter),
     }
 }
 

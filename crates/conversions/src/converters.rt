@@ -1,6 +1,6 @@
 // Converters of the joinery, good and bad, and what the calls answer.
 use crate::build::{Builder, Stop};
-use crate::{describe, print_refusal};
+use crate::describe;
 use elaborate::Opening;
 use records::source::{Node, Part};
 
@@ -55,7 +55,7 @@ fn register(rt: &impl Print, opening: &mut Opening, what: &str, part: Part) -> a
     print!(rt; "{what}: ")?;
     match opening.converter(part) {
         Ok(()) => println!(rt; "accepted")?,
-        Err(refusal) => print_refusal(rt, refusal)?,
+        Err(refusal) => println!(rt; "refused {refusal}")?,
     }
     Ok(())
 }

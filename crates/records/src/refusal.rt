@@ -3,6 +3,7 @@ ghost use Rattle.std.specs.Prelude.{◌≡◌};
 ghost use Rattle.records.specs.Numbers.{report_of, table_number};
 
 use crate::ids::{RuleId, TermId};
+use std::fmt;
 
 /// The tables of an elaboration, each with the number by which refusals name it.
 #[derive(Clone, Copy)]
@@ -107,5 +108,17 @@ impl Refusal {
             Refusal::UnlawfulRow { row } => (11, Values::One(row)),
         };
         Report { number, values }
+    }
+}
+
+// By hand, since the numbers are those of `report`.
+/// The number and the values, in words for people.
+impl fmt::Display for Refusal {
+    fn fmt<W: fmt::Write>(&self, f: &mut fmt::Formatter<W>) -> fmt::Result {
+        let Report { number, values } = self.report();
+        match values {
+            Values::One(value) => write!(f, "{number}, {value}"),
+            Values::Two(table, record) => write!(f, "{number}, table {table}, record {record}"),
+        }
     }
 }

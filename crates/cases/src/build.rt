@@ -18,6 +18,7 @@ pub(crate) struct Adding<'a> {
     pub(crate) line: &'a Line<'a>,
 }
 
+// An item holds no list of its arguments, so each is read once more; that it is a number of a type was seen when the line was read.
 fn read_type(word: &Word<'_>) -> Result<TypeId, Stop> {
     let n = number(word.text, 65_535).map_err(|_| Malformed::NotANumber)?;
     Ok(TypeId(n as u16))

@@ -30,15 +30,14 @@ fn print_refusal(output: &mut String, call: &str, refusal: Refusal) -> Result<()
     }
 }
 
-/// What a call answers: its refusal, if it was refused.
 fn print_answer(
     output: &mut String,
     call: &str,
-    refusal: Option<Refusal>,
+    answer: Result<(), Refusal>,
 ) -> Result<(), AllocError> {
-    match refusal {
-        Some(refusal) => print_refusal(output, call, refusal),
-        None => writeln!(output, "{call} ok"),
+    match answer {
+        Ok(()) => writeln!(output, "{call} ok"),
+        Err(refusal) => print_refusal(output, call, refusal),
     }
 }
 
@@ -53,11 +52,11 @@ impl Stage {
     }
 
     fn open(self, output: &mut String) -> Result<Stage, AllocError> {
-        let (stage, refusal) = match open(self.into_tables()) {
-            Ok(opening) => (Stage::Opening(opening), None),
-            Err((tables, refusal)) => (Stage::Unopened(tables), Some(refusal)),
+        let (stage, answer) = match open(self.into_tables()) {
+            Ok(opening) => (Stage::Opening(opening), Ok(())),
+            Err((tables, refusal)) => (Stage::Unopened(tables), Err(refusal)),
         };
-        print_answer(output, "open", refusal)?;
+        print_answer(output, "open", answer)?;
         Ok(stage)
     }
 
@@ -65,7 +64,7 @@ impl Stage {
         let Stage::Opening(opening) = self else {
             return writeln!(output, "converter order");
         };
-        print_answer(output, "converter", opening.converter(part).err())
+        print_answer(output, "converter", opening.converter(part))
     }
 
     fn close(self, output: &mut String) -> Result<Stage, AllocError> {

@@ -11,6 +11,7 @@ use std::alloc::{AllocError, Global};
 struct Session<'a> {
     heap: Global,
     place: Place,
+    // `place` knows of that host too, but what it knows is private to `items`.
     /// Whether a host stands there whose rows are to be looked at.
     host_waits: bool,
     output: &'a mut String,

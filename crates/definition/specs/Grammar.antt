@@ -1,5 +1,5 @@
 -- Which records may stand below which in a definition.
-use Rattle.std.specs.Prelude.{ℕ, Bool, true, false, if◌then◌else◌, ◌==◌, nat_le}
+use Rattle.std.specs.Prelude.{ℕ, Bool, true, if◌then◌else◌, ◌==◌, nat_le}
 use Rattle.records.specs.declared.source.Expr.{Expr}
 use Rattle.records.specs.declared.source.Expr.TheVariants as expr
 use Rattle.records.specs.declared.source.Node.{Node}

@@ -65,7 +65,7 @@ pub enum TypedNode {
     IfLet,
 }
 
-/// A record of the output list. Its size counts itself and all below it.
+/// A record of the output list. Its size counts itself and all below it. As of `Source`, a tree is a part of the list and no `Box` of children.
 #[derive(Clone, Copy)]
 pub struct Output {
     pub node: TypedNode,

@@ -4,7 +4,7 @@
 ghost use Rattle.std.specs.Prelude.{◌≡◌};
 ghost use Rattle.tree.specs.Layout.{Rules};
 
-// Its functions take a grammar and a list: the list is its caller's, so there is no type to hold both.
+// Its two functions take a grammar and a list. A struct of both would be made anew at each call, and be no plainer.
 pub mod lawful;
 
 /// Which trees are lawful: what a record says of the tree whose root it is.

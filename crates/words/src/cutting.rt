@@ -1,5 +1,5 @@
 // A text is cut into lines, and a line into words.
-ghost use Rattle.std.specs.Prelude.{◌≡◌, ℕ, ◌<◌, ◌≤◌, [], map, length, IfOk, MatchOption, ◌≢◌, slice_index};
+ghost use Rattle.std.specs.Prelude.{◌≡◌, ℕ, ◌<◌, ◌≤◌, map, length, IfOk, MatchOption, ◌≢◌, slice_index};
 ghost use Rattle.words.specs.Cut.{Printable, skipped, cut, seen};
 
 use std::alloc::{AllocError, Global};

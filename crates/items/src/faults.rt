@@ -2,36 +2,55 @@
 ghost use Rattle.std.specs.Prelude.{◌≡◌};
 ghost use Rattle.items.specs.Faults.{number_fault};
 
-use thiserror::Error;
+use std::error::Error;
+use std::fmt;
 use words::NumberFault;
 
-#[derive(Clone, Copy, Debug, PartialEq, Eq, Error)]
+#[derive(Clone, Copy, Debug, PartialEq, Eq)]
 pub enum Malformed {
     /// Two spaces in a row, or a space at an end of the line.
-    #[error("an empty word")]
     EmptyWord,
-    #[error("no line begins so")]
+    /// No line begins with that word.
     UnknownLine,
-    #[error("an unknown tag, kind or flag")]
+    /// A tag, a kind or a flag that there is not.
     UnknownWord,
-    #[error("a word is missing")]
     MissingWord,
-    #[error("a word too many")]
     SurplusWord,
-    #[error("not a number")]
     NotANumber,
     /// A number over the largest that the place allows.
-    #[error("a number that does not fit")]
     DoesNotFit,
     /// A name of more than 32 bits, or one that begins behind as many bytes.
-    #[error("a name beyond 32 bits")]
     FarName,
-    #[error("an environment line behind the first call")]
+    /// An environment line behind the first call.
     AfterCall,
     /// A host's row with no host of its kind before it, or with a call between.
-    #[error("no host here that takes this row")]
     NoHost,
 }
+
+// By hand, so that its text is promised: what `thiserror` writes promises none.
+impl fmt::Display for Malformed {
+    ghost use Rattle.std.specs.Prelude.{Some};
+    ghost use Rattle.items.specs.Faults.{malformed_text};
+
+    ghost output = { λ malformed. Some (malformed_text malformed) };
+
+    fn fmt<W: fmt::Write>(&self, f: &mut fmt::Formatter<W>) -> fmt::Result {
+        match self {
+            Malformed::EmptyWord => f.write_str("an empty word"),
+            Malformed::UnknownLine => f.write_str("no line begins so"),
+            Malformed::UnknownWord => f.write_str("an unknown tag, kind or flag"),
+            Malformed::MissingWord => f.write_str("a word is missing"),
+            Malformed::SurplusWord => f.write_str("a word too many"),
+            Malformed::NotANumber => f.write_str("not a number"),
+            Malformed::DoesNotFit => f.write_str("a number that does not fit"),
+            Malformed::FarName => f.write_str("a name beyond 32 bits"),
+            Malformed::AfterCall => f.write_str("an environment line behind the first call"),
+            Malformed::NoHost => f.write_str("no host here that takes this row"),
+        }
+    }
+}
+
+impl Error for Malformed {}
 
 impl From<NumberFault> for Malformed {
     ghost from_gives = { λ fault e. e ≡ number_fault fault };

@@ -1,5 +1,5 @@
 -- The numbers by which tables, causes of faults and refusals are known, and what a refusal returns.
-use Rattle.std.specs.Prelude.{ℕ, List, [], ◌∷◌, Some, None}
+use Rattle.std.specs.Prelude.{ℕ, List, [], ◌∷◌, ◌++◌, Some, None, codes, decimal}
 use Rattle.records.specs.declared.refusal.TableId.{TableId}
 use Rattle.records.specs.declared.refusal.TableId.TheVariants as table
 use Rattle.records.specs.declared.refusal.Refusal.{Refusal}
@@ -84,3 +84,11 @@ report_of (refusal.OtherSignature term) = reported 8 (One term.0)
 report_of (refusal.WrongArgument position) = reported 9 (One position)
 report_of (refusal.ShortList len) = reported 10 (One len)
 report_of (refusal.UnlawfulRow row) = reported 11 (One row)
+
+-- what is printed of a refusal: its number, and the values in words
+abbrev pub report_text : ℕ → Values → List ℕ
+report_text number (One value) = decimal number ++ (codes ", " ++ decimal value)
+report_text number (Two table record') = decimal number ++ (codes ", table " ++ (decimal table ++ (codes ", record " ++ decimal record')))
+
+abbrev pub refusal_text : Refusal → List ℕ
+refusal_text r = report_text (report_of r).number (report_of r).values

@@ -114,6 +114,11 @@ impl Refusal {
 // By hand, since the numbers are those of `report`.
 /// The number and the values, in words for people.
 impl fmt::Display for Refusal {
+    ghost use Rattle.std.specs.Prelude.{Some};
+    ghost use Rattle.records.specs.Numbers.{refusal_text};
+
+    ghost output = { λ refusal. Some (refusal_text refusal) };
+
     fn fmt<W: fmt::Write>(&self, f: &mut fmt::Formatter<W>) -> fmt::Result {
         let Report { number, values } = self.report();
         match values {

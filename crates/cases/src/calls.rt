@@ -20,7 +20,7 @@ pub(crate) enum Stage {
     Ruling(Ruling),
 }
 
-// In words of its own: those of `joinery` and `conversions` are for people, these are for programs.
+// In words of its own: those of `joinery` are for people, these are for programs.
 /// A call's refusal: its number and its values.
 fn print_refusal(output: &mut String, call: &str, refusal: Refusal) -> Result<(), AllocError> {
     let Report { number, values } = refusal.report();

@@ -8,7 +8,7 @@ use std::alloc::AllocError;
 use table::Table;
 use tables::Tables;
 
-// `joinery` and `conversions` have the same: shared, it would be public, with a contract.
+// `joinery` has the same: shared, it would be public, with a contract.
 /// The bytes of a name as text.
 pub(crate) fn name_text(tables: &Tables, name: Name) -> &str {
     std::str::from_utf8(name.bytes(tables.text.as_slice())).unwrap_or("?")

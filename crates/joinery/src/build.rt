@@ -1,5 +1,4 @@
 // Tables in the making: each record gets the next number, and its name is written into the text.
-// The same file stands in `joinery` and in `conversions`: programs share files through a library only, where each of these steps would need a contract.
 use records::env::{Constant, Symbol, Term, TermKind, Type, TypeKind};
 use records::ids::{Sym, TypeId};
 use records::refusal::Refusal;

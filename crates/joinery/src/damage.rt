@@ -1,7 +1,7 @@
 // Ways to damage the joinery environment, each of which breaks one rule of the tables.
 use crate::build::{Builder, Stop};
 use crate::environment::{BOARD, BY_RULES, LEN, edge_template, joinery, templated};
-use crate::print_opening;
+use elaborate::open;
 use records::env::TypeKind;
 use records::ids::{Sym, TypeId};
 use records::source::{Expr, Name, Node, Part, Pattern};
@@ -17,7 +17,11 @@ fn try_damage<T: Drop, F: FnOnce(&mut Builder) -> Result<T, Stop> + Drop>(
     print!(rt; "{what}: ")?;
     let mut builder = joinery(rt.alloc())?;
     damage(&mut builder)?;
-    print_opening(rt, builder)
+    match open(builder.tables) {
+        Ok(_opening) => println!(rt; "opened")?,
+        Err((_tables, refusal)) => println!(rt; "refused {refusal}")?,
+    }
+    Ok(())
 }
 
 fn try_types(rt: &(impl Print + AllocGlobal)) -> anyhow::Result<()> {

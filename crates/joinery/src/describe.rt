@@ -1,27 +1,11 @@
 // The environment in readable lines.
+use crate::names::{name_text, symbol_text, type_text};
 use itertools::Itertools;
 use records::env::{ConstructorKind, ExtractorKind, Term, TermKind, TypeKind};
-use records::ids::{Sym, TypeId};
-use records::source::{Name, Node, Part, Pattern};
+use records::source::{Node, Part, Pattern};
 use std::alloc::{AllocError, Global};
 use std::io;
 use tables::Tables;
-
-// This function and the two after it stand in `conversions` too: shared, they would be public, with a contract each.
-/// The bytes of a name as text.
-fn name_text(tables: &Tables, name: Name) -> &str {
-    std::str::from_utf8(name.bytes(tables.text.as_slice())).unwrap_or("?")
-}
-
-fn symbol_text(tables: &Tables, sym: Sym) -> &str {
-    let symbol = tables.symbols.get(sym.0 as usize);
-    symbol.map_or("?", |symbol| name_text(tables, symbol.name))
-}
-
-fn type_text(tables: &Tables, ty: TypeId) -> &str {
-    let ty = tables.types.get(ty.0 as usize);
-    ty.map_or("?", |ty| symbol_text(tables, ty.name))
-}
 
 /// A word for each kind. `Display` for another crate's type would take a wrapper, and that is no plainer.
 fn kind_text(kind: TypeKind) -> &'static str {

@@ -1,4 +1,4 @@
-// Boards, lengths, and the terms that join and edge them. As build.rt, it stands in `joinery` and in `conversions`.
+// Boards, lengths, and the terms that join and edge them.
 use crate::build::{Builder, Stop};
 use records::env::{ConstructorKind, ExtractorKind, TermFlags, TermKind, TypeKind};
 use records::ids::TypeId;

@@ -1,29 +1,35 @@
-// The joinery environment: opened, described, and damaged in sixteen ways that opening refuses.
+// The joinery environment: opened, described, its converters registered, and damaged in sixteen ways that opening refuses.
 #![tactic(auto)]
 
 mod build;
+mod converters;
 mod damage;
 mod describe;
 mod environment;
+mod names;
+mod results;
 
-use build::Builder;
+use converters::Definitions;
 use elaborate::open;
 use environment::joinery;
 
-fn print_opening(rt: &(impl Print + AllocGlobal), builder: Builder) -> anyhow::Result<()> {
+/// The whole environment is opened, with definitions of converters behind it, and elaborated as far as the calls go.
+fn elaborate(rt: &(impl Print + AllocGlobal)) -> anyhow::Result<()> {
+    println!(rt; "the joinery environment:")?;
+    let mut builder = joinery(rt.alloc())?;
+    let definitions = Definitions::new(&mut builder)?;
     match open(builder.tables) {
         Ok(opening) => {
             println!(rt; "opened")?;
             describe::environment(rt, opening.tables())?;
+            converters::run(rt, opening, definitions)
         }
-        Err((_tables, refusal)) => println!(rt; "refused {refusal}")?,
+        Err((_tables, refusal)) => Ok(println!(rt; "refused {refusal}")?),
     }
-    Ok(())
 }
 
 fn run(rt: &(impl Print + AllocGlobal)) -> anyhow::Result<()> {
-    println!(rt; "the joinery environment:")?;
-    print_opening(rt, joinery(rt.alloc())?)?;
+    elaborate(rt)?;
     damage::try_all(rt)
 }
 

@@ -1,32 +1,9 @@
 // What elaboration has written, in readable lines.
+use crate::names::{name_text, term_text, type_text};
 use records::fault::Cause;
-use records::ids::{Sym, TermId, TypeId};
-use records::source::Name;
 use std::alloc::{AllocError, Global};
 use std::io;
 use tables::Tables;
-
-// This function and the two after it stand in `joinery` too: shared, they would be public, with a contract each.
-/// The bytes of a name as text.
-fn name_text(tables: &Tables, name: Name) -> &str {
-    std::str::from_utf8(name.bytes(tables.text.as_slice())).unwrap_or("?")
-}
-
-fn symbol_text(tables: &Tables, sym: Sym) -> &str {
-    let symbol = tables.symbols.get(sym.0 as usize);
-    symbol.map_or("?", |symbol| name_text(tables, symbol.name))
-}
-
-fn type_text(tables: &Tables, ty: TypeId) -> &str {
-    let ty = tables.types.get(ty.0 as usize);
-    ty.map_or("?", |ty| symbol_text(tables, ty.name))
-}
-
-// As `type_text`: one for both would be given the list and how its record is named, and would be no plainer.
-fn term_text(tables: &Tables, term: TermId) -> &str {
-    let term = tables.terms.get(term.0 as usize);
-    term.map_or("?", |term| symbol_text(tables, term.name))
-}
 
 /// What is wrong with a converter definition.
 fn cause_text(heap: Global, tables: &Tables, cause: Cause) -> Result<String, AllocError> {
@@ -50,8 +27,8 @@ fn cause_text(heap: Global, tables: &Tables, cause: Cause) -> Result<String, All
     }
 }
 
-/// What elaboration has written so far.
-pub(crate) fn results(rt: &(impl Print + AllocGlobal), tables: &Tables) -> io::Result<()> {
+/// The symbols, the converters and the faults.
+pub(crate) fn describe(rt: &(impl Print + AllocGlobal), tables: &Tables) -> io::Result<()> {
     println!(rt; "{} symbols", tables.symbols.len())?;
     for converter in tables.converters.as_slice() {
         let inner = type_text(tables, converter.inner_ty);

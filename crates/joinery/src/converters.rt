@@ -1,6 +1,6 @@
 // Converters of the joinery, good and bad, and what the calls answer.
 use crate::build::{Builder, Stop};
-use crate::describe;
+use crate::results;
 use elaborate::Opening;
 use records::source::{Node, Part};
 
@@ -94,6 +94,6 @@ pub(crate) fn run(
     }
     let ruling = opening.close();
     println!(rt; "closed")?;
-    describe::results(rt, ruling.tables())?;
+    results::describe(rt, ruling.tables())?;
     Ok(())
 }

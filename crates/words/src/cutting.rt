@@ -1,5 +1,5 @@
-// A text is cut into lines, and a line into words.
-ghost use Rattle.std.specs.Prelude.{◌≡◌, ℕ, ◌<◌, ◌≤◌, map, length, IfOk, MatchOption, ◌≢◌, slice_index};
+// A line is cut into words.
+ghost use Rattle.std.specs.Prelude.{◌≡◌, map, IfOk, MatchOption};
 ghost use Rattle.words.specs.Cut.{Printable, skipped, cut, seen};
 
 use std::alloc::{AllocError, Global};
@@ -9,17 +9,6 @@ use std::alloc::{AllocError, Global};
 pub struct Word<'a> {
     pub start: usize,
     pub text: &'a str,
-}
-
-/// How many bytes stand before the first newline, or in all if there is none.
-pub fn line_len(text: &[u8]) -> usize
-    ensures within { result ≤ length text.now }
-    ensures before { (k : ℕ) → k < result → slice_index text.now k ≢ 10 }
-    ensures found { result < length text.now → slice_index text.now result ≡ 10 }
-{
-    text.iter()
-        .position(|byte| *byte == b'\n')
-        .unwrap_or(text.len())
 }
 
 /// Whether a line says nothing: it is empty, or a comment.

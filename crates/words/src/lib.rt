@@ -1,8 +1,8 @@
-// Lines, words and numbers of a text.
+// Words and numbers of a line.
 #![tactic(auto)]
 
 mod cutting;
 mod numerals;
 
-pub use cutting::{Word, is_skipped, line_len, printable, words};
+pub use cutting::{Word, is_skipped, printable, words};
 pub use numerals::{NumberFault, integer, number};

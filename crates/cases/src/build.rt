@@ -1,8 +1,8 @@
 // Environment lines, added to the tables.
-use crate::lines::Line;
 use crate::stop::Stop;
 use items::{Item, Malformed};
 use lookup::symbol;
+use reader::Line;
 use records::env::{Constant, Symbol, Term, Type};
 use records::ids::{Sym, TypeId};
 use records::source::{Name, Source};
@@ -20,7 +20,7 @@ pub(crate) struct Adding<'a> {
 
 // An item holds no list of its arguments, so each is read once more; that it is a number of a type was seen when the line was read.
 fn read_type(word: &Word<'_>) -> Result<TypeId, Stop> {
-    let n = number(word.text, 65_535).map_err(|_| Malformed::NotANumber)?;
+    let n = number(word.text, 65_535).map_err(Malformed::from)?;
     Ok(TypeId(n as u16))
 }
 

@@ -1,10 +1,10 @@
 // The stages, and what each call does at each.
 use crate::build::Adding;
 use crate::dump::dump;
-use crate::lines::Line;
 use crate::stop::Stop;
 use elaborate::{Opening, Ruling, open};
 use items::Item;
+use reader::Line;
 use records::refusal::{Refusal, Report, Values};
 use records::source::Part;
 use std::alloc::{AllocError, Global};

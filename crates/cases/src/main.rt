@@ -5,12 +5,12 @@ mod build;
 mod calls;
 mod dump;
 mod faults;
-mod lines;
 mod session;
 mod setup;
 mod stop;
 mod trees;
 
+use reader::lines;
 use std::io;
 use std::io::Read;
 use std::process::ExitCode;
@@ -21,8 +21,9 @@ fn run(rt: &HostRuntime) -> io::Result<ExitCode> {
     let heap = rt.alloc();
     let mut file = Vec::new(heap);
     rt.stdin().read_to_end(&mut file)?;
+    let lines = lines(heap, file.as_slice())?;
     let mut output = String::new(heap);
-    let performed = session::perform(heap, file.as_slice(), &mut output);
+    let performed = session::perform(heap, lines.as_slice(), &mut output);
     rt.stdout().write_all(output.as_bytes())?;
     if let Err(bad_line) = performed {
         eprintln!(rt; "{bad_line}")?;

@@ -1,17 +1,17 @@
 // The lines of a file in their turn.
 use crate::calls::{Stage, is_call};
-use crate::lines::{Line, read_line};
 use crate::setup::new_tables;
-use crate::stop::{BadLine, Stop};
-use items::{Item, Place};
+use crate::stop::Stop;
+use items::Item;
+use reader::{BadLine, Line, Reader};
 use std::alloc::{AllocError, Global};
 
 /// Where the reading of a file has come to, and what its calls have printed.
 #[derive(Drop)]
 struct Session<'a> {
     heap: Global,
-    place: Place,
-    // `place` knows of that host too, but what it knows is private to `items`.
+    reader: Reader,
+    // The reader knows of that host too, but what it knows is private to `items`.
     /// Whether a host stands there whose rows are to be looked at.
     host_waits: bool,
     output: &'a mut String,
@@ -29,11 +29,10 @@ impl Session<'_> {
         Ok(())
     }
 
-    /// The next line, if it says something and may stand there.
+    /// What the next line says, and whether a host's answer comes before it.
     fn read<'f>(&mut self, bytes: &'f [u8]) -> Result<Option<Line<'f>>, Stop> {
-        let line = read_line(self.heap, bytes)?;
+        let line = self.reader.read(self.heap, bytes)?;
         if let Some(line) = &line {
-            self.place = self.place.after(line.item)?;
             self.answer_host(line.item)?;
         }
         Ok(line)
@@ -46,23 +45,30 @@ impl Session<'_> {
             None => Ok(stage),
         }
     }
+
+    fn perform_all(&mut self, lines: &[&[u8]]) -> Result<(), Stop> {
+        let mut stage = Stage::Unopened(new_tables(self.heap, lines)?);
+        for bytes in lines {
+            stage = self.perform(stage, bytes)?;
+        }
+        Ok(())
+    }
 }
 
-/// Performs all lines. What stands behind the last newline counts as a line: mostly an empty one, which says nothing.
-pub(crate) fn perform(heap: Global, file: &[u8], output: &mut String) -> Result<(), BadLine> {
-    let tables = new_tables(heap, file).map_err(|why| BadLine { line: 0, why })?;
-    let mut stage = Stage::Unopened(tables);
+/// Performs the lines of a file, up to the first that is bad. Number 0 says that there was no memory for the tables.
+pub(crate) fn perform(
+    heap: Global,
+    lines: &[&[u8]],
+    output: &mut String,
+) -> Result<(), BadLine<Stop>> {
     let mut session = Session {
         heap,
-        place: Place::START,
+        reader: Reader::START,
         host_waits: false,
         output,
     };
-    for (i, bytes) in file.split(|byte| *byte == b'\n').enumerate() {
-        let line = i.saturating_add(1);
-        stage = session
-            .perform(stage, bytes)
-            .map_err(|why| BadLine { line, why })?;
-    }
-    Ok(())
+    session.perform_all(lines).map_err(|why| BadLine {
+        line: session.reader.line,
+        why,
+    })
 }

@@ -1,8 +1,8 @@
 // Tables with the limits that the file asks for, and the built-in types.
 use crate::calls::is_call;
-use crate::lines::read_line;
 use crate::stop::Stop;
 use items::Item;
+use reader::Reader;
 use records::refusal::TableId;
 use std::alloc::Global;
 use tables::{Limits, Tables};
@@ -44,14 +44,15 @@ impl Setup {
         }
     }
 
-    /// What the file says up to its first call or its first malformed line, where reading ends anyway.
-    fn read(heap: Global, file: &[u8]) -> Setup {
+    /// What the lines say up to the first call or the first malformed line, where reading ends anyway.
+    fn read(heap: Global, lines: &[&[u8]]) -> Setup {
         let mut setup = Setup {
             limits: Limits::MAX,
             expand: true,
         };
-        for bytes in file.split(|byte| *byte == b'\n') {
-            match read_line(heap, bytes) {
+        let mut reader = Reader::START;
+        for bytes in lines {
+            match reader.read(heap, bytes) {
                 Ok(Some(line)) if is_call(line.item) => break,
                 Ok(Some(line)) => setup.take_over(line.item),
                 Ok(None) => {}
@@ -63,8 +64,8 @@ impl Setup {
 }
 
 /// Tables as the file wants them, with the built-in types as far as they fit.
-pub(crate) fn new_tables(heap: Global, file: &[u8]) -> Result<Tables, Stop> {
-    let setup = Setup::read(heap, file);
+pub(crate) fn new_tables(heap: Global, lines: &[&[u8]]) -> Result<Tables, Stop> {
+    let setup = Setup::read(heap, lines);
     let mut tables = Tables::new(heap, &setup.limits, setup.expand)?;
     let _ = tables.add_builtins();
     Ok(tables)

@@ -1,5 +1,6 @@
-// Why a file is read no further.
+// Why a file is performed no further.
 use items::Malformed;
+use reader::Unread;
 use records::refusal::Refusal;
 use std::alloc::AllocError;
 use std::num::TryFromIntError;
@@ -10,9 +11,6 @@ use thiserror::Error;
 pub(crate) enum Stop {
     #[error("no memory")]
     NoMemory(#[from] AllocError),
-    /// A byte that is neither a space nor a printable ASCII character.
-    #[error("a character that is not printable ASCII")]
-    Unprintable,
     #[error("{0}")]
     Malformed(#[from] Malformed),
     /// A table has no place for what the line adds.
@@ -20,12 +18,13 @@ pub(crate) enum Stop {
     Full,
 }
 
-/// The line that is read no further, by its number: the first is 1, and at 0 there are no tables for any.
-#[derive(Clone, Copy, Debug, Error)]
-#[error("line {line}: {why}")]
-pub(crate) struct BadLine {
-    pub(crate) line: usize,
-    pub(crate) why: Stop,
+impl From<Unread> for Stop {
+    fn from(why: Unread) -> Stop {
+        match why {
+            Unread::NoMemory(error) => Stop::NoMemory(error),
+            Unread::Malformed(malformed) => Stop::Malformed(malformed),
+        }
+    }
 }
 
 impl From<Full> for Stop {

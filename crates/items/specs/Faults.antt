@@ -10,6 +10,7 @@ number_fault fault.NotANumber = malformed.NotANumber
 number_fault fault.DoesNotFit = malformed.DoesNotFit
 
 abbrev pub malformed_text : Malformed → List ℕ
+malformed_text malformed.Unprintable = codes "a character that is not printable ASCII"
 malformed_text malformed.EmptyWord = codes "an empty word"
 malformed_text malformed.UnknownLine = codes "no line begins so"
 malformed_text malformed.UnknownWord = codes "an unknown tag, kind or flag"

@@ -8,6 +8,8 @@ use words::NumberFault;
 
 #[derive(Clone, Copy, Debug, PartialEq, Eq)]
 pub enum Malformed {
+    /// A byte that is neither a space nor a printable ASCII character.
+    Unprintable,
     /// Two spaces in a row, or a space at an end of the line.
     EmptyWord,
     /// No line begins with that word.
@@ -36,6 +38,7 @@ impl fmt::Display for Malformed {
 
     fn fmt<W: fmt::Write>(&self, f: &mut fmt::Formatter<W>) -> fmt::Result {
         match self {
+            Malformed::Unprintable => f.write_str("a character that is not printable ASCII"),
             Malformed::EmptyWord => f.write_str("an empty word"),
             Malformed::UnknownLine => f.write_str("no line begins so"),
             Malformed::UnknownWord => f.write_str("an unknown tag, kind or flag"),

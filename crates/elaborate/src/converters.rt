@@ -1,7 +1,9 @@
 // Registering converters.
 ghost use Rattle.std.specs.Prelude.{◌≡◌, OnErr};
-ghost use Rattle.table.specs.Contents.{outcome};
+ghost use Rattle.table.specs.Contents.{Outcome, outcome};
+ghost use Rattle.records.specs.declared.refusal.Refusal.{Refusal};
 ghost use Rattle.tables.specs.Tables.{env};
+ghost use Rattle.tables.specs.declared.Tables.{Tables};
 ghost use Rattle.elaborate.specs.Converters.{add_converter, register, convert, Converts};
 ghost use Rattle.lookup.specs.Lookup.{converter_of};
 
@@ -91,6 +93,7 @@ fn convert(tables: &mut Tables, definition: Definition) -> Result<(), Refusal>
 /// Registers the converter definition that a part of the source list writes.
 pub(crate) fn convert_part(tables: &mut Tables, part: Part) -> Result<(), Refusal>
     ensures meaning { Converts part tables.old (outcome tables.new result) }
+    ensures only { (t : Outcome Tables (Unit {0}) Refusal) → Converts part tables.old t → t ≡ outcome tables.new result }
     ensures unchanged { OnErr result (tables.new ≡ tables.old) }
     ensures env { env tables.new ≡ env tables.old }
 {

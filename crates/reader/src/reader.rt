@@ -7,12 +7,13 @@ use crate::line::{Line, read_line};
 use items::Place;
 use std::alloc::Global;
 
-/// The line that was read last, and what may stand behind it.
+/// The line that was read last.
 #[derive(Clone, Copy)]
 pub struct Reader {
     /// Its number; the first line's is 1.
     pub line: usize,
-    place: Place,
+    /// What may stand behind it.
+    pub place: Place,
 }
 
 impl Reader {

@@ -43,7 +43,7 @@ fn print_answer(
 
 impl Stage {
     /// The tables; whatever stage there was is over.
-    fn into_tables(self) -> Tables {
+    pub(crate) fn into_tables(self) -> Tables {
         match self {
             Stage::Unopened(tables) => tables,
             Stage::Opening(opening) => opening.into_tables(),
@@ -51,13 +51,12 @@ impl Stage {
         }
     }
 
-    fn open(self, output: &mut String) -> Result<Stage, AllocError> {
-        let (stage, answer) = match open(self.into_tables()) {
+    /// Opens the tables of whatever stage there was.
+    fn open(self) -> (Stage, Result<(), Refusal>) {
+        match open(self.into_tables()) {
             Ok(opening) => (Stage::Opening(opening), Ok(())),
             Err((tables, refusal)) => (Stage::Unopened(tables), Err(refusal)),
-        };
-        print_answer(output, "open", answer)?;
-        Ok(stage)
+        }
     }
 
     fn converter(&mut self, part: Part, output: &mut String) -> Result<(), AllocError> {
@@ -67,13 +66,12 @@ impl Stage {
         print_answer(output, "converter", opening.converter(part))
     }
 
-    fn close(self, output: &mut String) -> Result<Stage, AllocError> {
-        let (stage, answer) = match self {
+    /// Ends the converters, where they are what comes next.
+    fn close(self) -> (Stage, &'static str) {
+        match self {
             Stage::Opening(opening) => (Stage::Ruling(opening.close()), "ok"),
             other => (other, "order"),
-        };
-        writeln!(output, "close {answer}")?;
-        Ok(stage)
+        }
     }
 
     /// A call that follows closing, and is not there yet.
@@ -113,20 +111,29 @@ impl Stage {
         Ok(())
     }
 
+    // The stage comes back with an error too: where it may end by a `?`, the proof goes through the end of all its tables, and takes minutes.
     /// One line: the environment is filled, a call is performed.
     pub(crate) fn step(
         mut self,
         heap: Global,
         line: &Line<'_>,
         output: &mut String,
-    ) -> Result<Stage, Stop> {
+    ) -> (Stage, Result<(), Stop>) {
         // A match, since what a call does to the stage differs by call.
         match line.item {
-            Item::Open => Ok(self.open(output)?),
-            Item::Close => Ok(self.close(output)?),
+            Item::Open => {
+                let (stage, answer) = self.open();
+                let printed = print_answer(output, "open", answer);
+                (stage, printed.map_err(Stop::from))
+            }
+            Item::Close => {
+                let (stage, answer) = self.close();
+                let printed = writeln!(output, "close {answer}");
+                (stage, printed.map_err(Stop::from))
+            }
             _ => {
-                self.stay(heap, line, output)?;
-                Ok(self)
+                let performed = self.stay(heap, line, output);
+                (self, performed)
             }
         }
     }

@@ -39,19 +39,32 @@ impl Session<'_> {
     }
 
     /// Performs one line; what it printed stays, also where it is bad.
-    fn perform(&mut self, stage: Stage, bytes: &[u8]) -> Result<Stage, Stop> {
-        match self.read(bytes)? {
-            Some(line) => stage.step(self.heap, &line, self.output),
-            None => Ok(stage),
+    fn perform(&mut self, stage: Stage, bytes: &[u8]) -> (Stage, Result<(), Stop>) {
+        match self.read(bytes) {
+            Ok(Some(line)) => stage.step(self.heap, &line, self.output),
+            Ok(None) => (stage, Ok(())),
+            Err(why) => (stage, Err(why)),
         }
     }
 
-    fn perform_all(&mut self, lines: &[&[u8]]) -> Result<(), Stop> {
-        let mut stage = Stage::Unopened(new_tables(self.heap, lines)?);
+    /// Performs the lines up to the first that is bad.
+    fn perform_lines(&mut self, mut stage: Stage, lines: &[&[u8]]) -> (Stage, Result<(), Stop>) {
         for bytes in lines {
-            stage = self.perform(stage, bytes)?;
+            let (next, performed) = self.perform(stage, bytes);
+            if performed.is_err() {
+                return (next, performed);
+            }
+            stage = next;
         }
-        Ok(())
+        (stage, Ok(()))
+    }
+
+    fn perform_all(&mut self, lines: &[&[u8]]) -> Result<(), Stop> {
+        let stage = Stage::Unopened(new_tables(self.heap, lines)?);
+        let (stage, performed) = self.perform_lines(stage, lines);
+        // Its tables end here, and not the stage, which may be one of three.
+        let _tables = stage.into_tables();
+        performed
     }
 }
 

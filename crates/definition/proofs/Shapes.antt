@@ -14,7 +14,7 @@ use Rattle.definition.specs.declared.converter.Ident.{Ident}
 use Rattle.definition.specs.declared.grammar.Kind.TheVariants as kind
 
 -- more trees than it may stand over do not stand below a record
-crowded : (r : Source) (n after : ℕ) (f : Forest Source) → ((m : ℕ) → counts r.node m ≡ true → m ≡ n) → n < after → Below definition_rules r after f → ⊥
+crowded : (r : Source) (n after : ℕ) (f : Forest Source) → ((m : ℕ) → counts 0 r.node m ≡ true → m ≡ n) → n < after → Below definition_rules r after f → ⊥
 crowded r n after none only more below = omega (arith, only after below)
 crowded r n after (next f c g) only more (takes, below) = crowded r n (after + 1) f only (omega arith) below
 

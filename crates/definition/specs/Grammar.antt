@@ -29,14 +29,15 @@ expr_counts (expr.ConstInt val) n = n == 0
 expr_counts (expr.ConstPrim val) n = n == 0
 expr_counts expr.Let n = nat_le 1 n
 
-abbrev pub counts : Node → ℕ → Bool
-counts (node.Pattern p) n = pattern_counts 0 p n
-counts (node.Expr e) n = expr_counts e n
-counts (node.LetDef var ty) n = n == 1
-counts node.IfLet n = n == 2
-counts (node.Rule prio name) n = nat_le 2 n
-counts (node.Ident name) n = n == 0
-counts node.Converter n = n == 3
+-- over how many trees a record may stand, in a template of that arity
+abbrev pub counts : ℕ → Node → ℕ → Bool
+counts arity (node.Pattern p) n = pattern_counts arity p n
+counts arity (node.Expr e) n = expr_counts e n
+counts arity (node.LetDef var ty) n = n == 1
+counts arity node.IfLet n = n == 2
+counts arity (node.Rule prio name) n = nat_le 2 n
+counts arity (node.Ident name) n = n == 0
+counts arity node.Converter n = n == 3
 
 -- an expression comes last in a let, behind definitions
 abbrev pub expr_child : Expr → ℕ → Kind
@@ -69,9 +70,14 @@ place kind.Converter = 6
 abbrev pub same_kind : Kind → Kind → Bool
 same_kind k l = place k == place l
 
-abbrev pub definition_rules : Rules Source
-definition_rules = record {
+-- the grammar of all trees of the source list, with macro arguments below the arity
+abbrev pub source_rules : ℕ → Rules Source
+source_rules arity = record {
   size = λ s. s.size;
-  counts = λ s n. counts s.node n;
+  counts = λ s n. counts arity s.node n;
   takes = λ s c after first. same_kind (kind_of c.node) (child_kind s.node after first);
 }
+
+-- a definition has no arguments, and so no macro argument
+abbrev pub definition_rules : Rules Source
+definition_rules = source_rules 0

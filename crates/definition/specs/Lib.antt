@@ -1,3 +1,7 @@
 pub mod Grammar
 pub mod Lawful
 pub mod Converters
+pub mod PatternTrees
+pub mod ExprTrees
+pub mod RuleTrees
+pub mod SourceTrees

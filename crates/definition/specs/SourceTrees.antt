@@ -1,0 +1,80 @@
+-- Any tree of the source list but a converter: what it says, the trees right below it, and the records that lay it out.
+use Rattle.std.specs.Prelude.{◌≡◌, ℕ, List, [], ◌∷◌, ◌++◌, map, length, Option, Some, None, MatchOption, slice_get}
+use Rattle.std.specs.List.{enumerate_from, flat_map}
+use Rattle.records.specs.declared.source.Expr.TheVariants as node_expr
+use Rattle.records.specs.declared.source.Node.{Node}
+use Rattle.records.specs.declared.source.Node.TheVariants as node
+use Rattle.records.specs.declared.source.Pattern.TheVariants as node_pattern
+use Rattle.records.specs.declared.source.Source.{Source}
+use Rattle.definition.specs.PatternTrees.{At, Numbered, node_record, PatternTree, pattern_records, subpatterns}
+use Rattle.definition.specs.PatternTrees as p
+use Rattle.definition.specs.ExprTrees.{ExprTree, LetDefTree, let_def, LetDefTrees, expr_records, let_def_records, expr_list, let_def_list}
+use Rattle.definition.specs.ExprTrees as e
+use Rattle.definition.specs.RuleTrees.{IfLetTree, RuleTree, if_let_records, rule_records}
+
+pub data SourceTree : Type 0 where
+  of_pattern : PatternTree → SourceTree
+  of_expr : ExprTree → SourceTree
+  of_let_def : LetDefTree → SourceTree
+  of_if_let : IfLetTree → SourceTree
+  of_rule : RuleTree → SourceTree
+
+abbrev pub tree_records : SourceTree → List Numbered
+tree_records (of_pattern p) = pattern_records p
+tree_records (of_expr e) = expr_records e
+tree_records (of_let_def d) = let_def_records d
+tree_records (of_if_let i) = if_let_records i
+tree_records (of_rule r) = rule_records r
+
+abbrev pub pattern_at : PatternTree → At × Node
+pattern_at (p.var at name) = (at, node.Pattern (node_pattern.Var name))
+pattern_at (p.bind_pattern at name q) = (at, node.Pattern (node_pattern.BindPattern name))
+pattern_at (p.const_bool at val) = (at, node.Pattern (node_pattern.ConstBool val))
+pattern_at (p.const_int at val) = (at, node.Pattern (node_pattern.ConstInt val))
+pattern_at (p.const_prim at name) = (at, node.Pattern (node_pattern.ConstPrim name))
+pattern_at (p.term at name args) = (at, node.Pattern (node_pattern.Term name))
+pattern_at (p.wildcard at) = (at, node.Pattern node_pattern.Wildcard)
+pattern_at (p.«and» at qs) = (at, node.Pattern node_pattern.And)
+pattern_at (p.macro_arg at index) = (at, node.Pattern (node_pattern.MacroArg index))
+
+abbrev pub expr_at : ExprTree → At × Node
+expr_at (e.term at name args) = (at, node.Expr (node_expr.Term name))
+expr_at (e.var at name) = (at, node.Expr (node_expr.Var name))
+expr_at (e.const_bool at val) = (at, node.Expr (node_expr.ConstBool val))
+expr_at (e.const_int at val) = (at, node.Expr (node_expr.ConstInt val))
+expr_at (e.const_prim at name) = (at, node.Expr (node_expr.ConstPrim name))
+expr_at (e.«let» at defs body) = (at, node.Expr node_expr.Let)
+
+abbrev pub let_def_at : LetDefTree → At × Node
+let_def_at (let_def at name ty value) = (at, node.LetDef name ty)
+
+-- what the root says, and where it stands
+abbrev pub root_at : SourceTree → At × Node
+root_at (of_pattern p) = pattern_at p
+root_at (of_expr e) = expr_at e
+root_at (of_let_def d) = let_def_at d
+root_at (of_if_let i) = (i.at, node.IfLet)
+root_at (of_rule r) = (r.at, node.Rule r.prio r.name)
+
+abbrev pub expr_children : ExprTree → List SourceTree
+expr_children (e.term at name args) = map of_expr (expr_list args)
+expr_children (e.var at name) = []
+expr_children (e.const_bool at val) = []
+expr_children (e.const_int at val) = []
+expr_children (e.const_prim at name) = []
+expr_children (e.«let» at defs body) = map of_let_def (let_def_list defs) ++ of_expr body ∷ []
+
+abbrev pub let_def_children : LetDefTree → List SourceTree
+let_def_children (let_def at name ty value) = of_expr value ∷ []
+
+-- the trees right below a tree, in order
+abbrev pub children : SourceTree → List SourceTree
+children (of_pattern p) = map of_pattern (subpatterns p)
+children (of_expr e) = expr_children e
+children (of_let_def d) = let_def_children d
+children (of_if_let i) = of_pattern i.pattern ∷ of_expr i.expr ∷ []
+children (of_rule r) = of_pattern r.pattern ∷ (map of_if_let r.if_lets ++ of_expr r.expr ∷ [])
+
+-- the records, each with its number in the source list, are those of the tree
+abbrev pub LaysOut : ℕ → List Source → SourceTree → Type 0
+LaysOut first xs t = enumerate_from first xs ≡ tree_records t

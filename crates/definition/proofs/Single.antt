@@ -17,7 +17,7 @@ use Rattle.definition.specs.declared.grammar.Kind.{Kind}
 use Rattle.definition.specs.declared.grammar.Kind.TheVariants as kind
 
 module _ (k : Kind) (source : List Source) (p : Part) where
-  is_tree : IsTreeOf k (slice source p) → IsTree definition_rules (slice source p)
+  pub is_tree : IsTreeOf k (slice source p) → IsTree definition_rules (slice source p)
   is_tree (r, g, laid, lawful, kind) = (r, g, laid, lawful)
 
   none_there : p.end ≤ p.start → length (slice source p) ≡ 0

@@ -1,5 +1,5 @@
 -- Expressions as ISLE's abstract syntax has them, and the records that lay one out.
-use Rattle.std.specs.Prelude.{ℕ, ℤ, Bool, List, [], ◌∷◌, ◌++◌}
+use Rattle.std.specs.Prelude.{ℤ, Bool, List, [], ◌∷◌, ◌++◌}
 use Rattle.records.specs.declared.source.Expr.TheVariants as expr
 use Rattle.records.specs.declared.source.Name.{Name}
 use Rattle.records.specs.declared.source.Node.TheVariants as node

@@ -4,4 +4,4 @@ pub mod Converters
 pub mod PatternTrees
 pub mod ExprTrees
 pub mod RuleTrees
-pub mod SourceTrees
+pub mod Syntax

@@ -4,6 +4,12 @@
 mod check;
 mod converter;
 mod grammar;
+mod named_pieces;
+mod pieces;
+mod rule;
+mod siblings;
+mod source_tree;
 
 pub use converter::{Converter, Ident};
 pub use grammar::Kind;
+pub use source_tree::SourceTree;

@@ -1,6 +1,6 @@
--- Any tree of the source list but a converter: what it says, the trees right below it, and the records that lay it out.
-use Rattle.std.specs.Prelude.{◌≡◌, ℕ, List, [], ◌∷◌, ◌++◌, map, length, Option, Some, None, MatchOption, slice_get}
-use Rattle.std.specs.List.{enumerate_from, flat_map}
+-- Any piece of abstract syntax that a tree of the source list may be (converters apart): its root, the pieces right below it, and the records that lay it out.
+use Rattle.std.specs.Prelude.{◌≡◌, ℕ, List, [], ◌∷◌, ◌++◌, map, Option, Some, None}
+use Rattle.std.specs.List.{enumerate_from}
 use Rattle.records.specs.declared.source.Expr.TheVariants as node_expr
 use Rattle.records.specs.declared.source.Node.{Node}
 use Rattle.records.specs.declared.source.Node.TheVariants as node
@@ -12,19 +12,19 @@ use Rattle.definition.specs.ExprTrees.{ExprTree, LetDefTree, let_def, LetDefTree
 use Rattle.definition.specs.ExprTrees as e
 use Rattle.definition.specs.RuleTrees.{IfLetTree, RuleTree, if_let_records, rule_records}
 
-pub data SourceTree : Type 0 where
-  of_pattern : PatternTree → SourceTree
-  of_expr : ExprTree → SourceTree
-  of_let_def : LetDefTree → SourceTree
-  of_if_let : IfLetTree → SourceTree
-  of_rule : RuleTree → SourceTree
+pub data Syntax : Type 0 where
+  of_pattern : PatternTree → Syntax
+  of_expr : ExprTree → Syntax
+  of_let_def : LetDefTree → Syntax
+  of_if_let : IfLetTree → Syntax
+  of_rule : RuleTree → Syntax
 
-abbrev pub tree_records : SourceTree → List Numbered
-tree_records (of_pattern p) = pattern_records p
-tree_records (of_expr e) = expr_records e
-tree_records (of_let_def d) = let_def_records d
-tree_records (of_if_let i) = if_let_records i
-tree_records (of_rule r) = rule_records r
+abbrev pub syntax_records : Syntax → List Numbered
+syntax_records (of_pattern p) = pattern_records p
+syntax_records (of_expr e) = expr_records e
+syntax_records (of_let_def d) = let_def_records d
+syntax_records (of_if_let i) = if_let_records i
+syntax_records (of_rule r) = rule_records r
 
 abbrev pub pattern_at : PatternTree → At × Node
 pattern_at (p.var at name) = (at, node.Pattern (node_pattern.Var name))
@@ -49,14 +49,14 @@ abbrev pub let_def_at : LetDefTree → At × Node
 let_def_at (let_def at name ty value) = (at, node.LetDef name ty)
 
 -- what the root says, and where it stands
-abbrev pub root_at : SourceTree → At × Node
+abbrev pub root_at : Syntax → At × Node
 root_at (of_pattern p) = pattern_at p
 root_at (of_expr e) = expr_at e
 root_at (of_let_def d) = let_def_at d
 root_at (of_if_let i) = (i.at, node.IfLet)
 root_at (of_rule r) = (r.at, node.Rule r.prio r.name)
 
-abbrev pub expr_children : ExprTree → List SourceTree
+abbrev pub expr_children : ExprTree → List Syntax
 expr_children (e.term at name args) = map of_expr (expr_list args)
 expr_children (e.var at name) = []
 expr_children (e.const_bool at val) = []
@@ -64,17 +64,47 @@ expr_children (e.const_int at val) = []
 expr_children (e.const_prim at name) = []
 expr_children (e.«let» at defs body) = map of_let_def (let_def_list defs) ++ of_expr body ∷ []
 
-abbrev pub let_def_children : LetDefTree → List SourceTree
+abbrev pub let_def_children : LetDefTree → List Syntax
 let_def_children (let_def at name ty value) = of_expr value ∷ []
 
 -- the trees right below a tree, in order
-abbrev pub children : SourceTree → List SourceTree
+abbrev pub children : Syntax → List Syntax
 children (of_pattern p) = map of_pattern (subpatterns p)
 children (of_expr e) = expr_children e
 children (of_let_def d) = let_def_children d
 children (of_if_let i) = of_pattern i.pattern ∷ of_expr i.expr ∷ []
 children (of_rule r) = of_pattern r.pattern ∷ (map of_if_let r.if_lets ++ of_expr r.expr ∷ [])
 
+-- a let's definitions, and its body
+abbrev pub let_defs : Syntax → List Syntax
+let_defs (of_expr (e.«let» at defs body)) = map of_let_def (let_def_list defs)
+let_defs _ = []
+
+abbrev pub let_body : Syntax → Option Syntax
+let_body (of_expr (e.«let» at defs body)) = Some (of_expr body)
+let_body _ = None
+
+-- a rule's pattern, its if-lets, and its right-hand side
+abbrev pub rule_pattern : Syntax → Option Syntax
+rule_pattern (of_rule r) = Some (of_pattern r.pattern)
+rule_pattern _ = None
+
+abbrev pub rule_if_lets : Syntax → List Syntax
+rule_if_lets (of_rule r) = map of_if_let r.if_lets
+rule_if_lets _ = []
+
+abbrev pub rule_expr : Syntax → Option Syntax
+rule_expr (of_rule r) = Some (of_expr r.expr)
+rule_expr _ = None
+
 -- the records, each with its number in the source list, are those of the tree
-abbrev pub LaysOut : ℕ → List Source → SourceTree → Type 0
-LaysOut first xs t = enumerate_from first xs ≡ tree_records t
+abbrev pub LaysOut : ℕ → List Source → Syntax → Type 0
+LaysOut first xs t = enumerate_from first xs ≡ syntax_records t
+
+-- the records are those of some tree
+abbrev pub IsSyntax : ℕ → List Source → Type 0
+IsSyntax first xs = (t : Syntax) × LaysOut first xs t
+
+-- the records are those of the piece, which there is
+abbrev pub IsPiece : Option Syntax → ℕ → List Source → Type 0
+IsPiece piece first xs = (t : Syntax) × (piece ≡ Some t) × LaysOut first xs t

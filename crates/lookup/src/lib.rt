@@ -4,10 +4,12 @@
 
 mod by_name;
 mod converters;
+mod interning;
 mod names;
 mod symbols;
 
 pub use by_name::{term_by_name, type_by_name};
 pub use converters::converter;
+pub use interning::intern;
 pub use names::symbol;
 pub use symbols::{constant_type, term_named, type_named};

@@ -1,7 +1,7 @@
 // Environment lines, added to the tables.
 use crate::stop::Stop;
 use items::{Item, Malformed};
-use lookup::symbol;
+use lookup::intern;
 use reader::Line;
 use records::env::{Constant, Symbol, Term, Type};
 use records::ids::{Sym, TypeId};
@@ -33,12 +33,7 @@ impl Adding<'_> {
     /// The symbol of a name of the line, which is added if there is none yet. The name goes into the text in any case.
     fn intern(&mut self, name: Name) -> Result<Sym, Stop> {
         let name = self.name(name)?;
-        if let Some(sym) = symbol(self.tables, name) {
-            return Ok(sym);
-        }
-        let sym = Sym(u16::try_from(self.tables.symbols.len())?);
-        self.tables.add_symbol(Symbol { name })?;
-        Ok(sym)
+        Ok(intern(self.tables, name)?)
     }
 
     /// The types that the words from number `from` on name.

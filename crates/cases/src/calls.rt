@@ -2,6 +2,7 @@
 use crate::build::Adding;
 use crate::dump::dump;
 use crate::stop::Stop;
+use definition::SourceTree;
 use elaborate::{Opening, Ruling, open};
 use items::Item;
 use reader::Line;
@@ -74,6 +75,17 @@ impl Stage {
         }
     }
 
+    /// Tests a rule definition; translating it is not there yet.
+    fn rule(&self, part: Part, output: &mut String) -> Result<(), AllocError> {
+        let Stage::Ruling(ruling) = self else {
+            return writeln!(output, "rule order");
+        };
+        match SourceTree::read_rule(ruling.tables().source.as_slice(), part) {
+            Ok(_) => writeln!(output, "rule not yet"),
+            Err(refusal) => print_refusal(output, "rule", refusal),
+        }
+    }
+
     /// A call that follows closing, and is not there yet.
     fn later(&self, call: &str, output: &mut String) -> Result<(), AllocError> {
         match self {
@@ -102,7 +114,7 @@ impl Stage {
     fn stay(&mut self, heap: Global, line: &Line<'_>, output: &mut String) -> Result<(), Stop> {
         match line.item {
             Item::Converter { part } => self.converter(part, output)?,
-            Item::Rule { .. } => self.later("rule", output)?,
+            Item::Rule { part } => self.rule(part, output)?,
             Item::Finish => self.later("finish", output)?,
             Item::Run { .. } => self.later("run", output)?,
             Item::Dump => self.dump(output)?,

@@ -5,7 +5,6 @@ use records::ids::TypeId;
 use records::result::{Converter, Output, Rule, TypedExpr, TypedNode, TypedPattern};
 use records::source::{Name, Part, Pos};
 use std::alloc::AllocError;
-use table::Table;
 use tables::Tables;
 
 // `joinery` has the same: shared, it would be public, with a contract.
@@ -15,15 +14,15 @@ pub(crate) fn name_text(tables: &Tables, name: Name) -> &str {
 }
 
 /// A line for each record: a word, its number, and what `values` writes, each value behind a space.
-fn each<T, const MAX: usize, F: Fn(&mut String, &T) -> Result<(), AllocError> + Drop>(
+fn each<T, F: Fn(&mut String, &T) -> Result<(), AllocError> + Drop>(
     output: &mut String,
     word: &str,
-    records: &Table<T, MAX>,
+    records: &[T],
     values: F,
 ) -> Result<(), AllocError>
     requires { F.IsAlwaysCallable values }
 {
-    for (i, record) in records.as_slice().iter().enumerate() {
+    for (i, record) in records.iter().enumerate() {
         write!(output, "{word} {i}")?;
         values(output, record)?;
         writeln!(output)?;
@@ -114,22 +113,23 @@ fn write_node(output: &mut String, record: &Output) -> Result<(), AllocError> {
 }
 
 pub(crate) fn dump(output: &mut String, tables: &Tables) -> Result<(), AllocError> {
-    each(output, "symbol", &tables.symbols, |out, symbol| {
+    let symbols = tables.symbols.as_slice();
+    each(output, "symbol", symbols, |out, symbol| {
         write!(out, " {}", name_text(tables, symbol.name))
     })?;
-    each(output, "converter", &tables.converters, write_converter)?;
-    each(
-        output,
-        "definition",
-        &tables.definitions,
-        |out, definition| { write_part(out, definition.part) },
-    )?;
-    each(output, "fault", &tables.faults, |out, fault| {
+    let converters = tables.converters.as_slice();
+    each(output, "converter", converters, write_converter)?;
+    let definitions = tables.definitions.as_slice();
+    each(output, "definition", definitions, |out, definition| {
+        write_part(out, definition.part)
+    })?;
+    let faults = tables.faults.as_slice();
+    each(output, "fault", faults, |out, fault| {
         write_fault(out, tables, fault)
     })?;
-    each(output, "rule", &tables.rules, write_rule)?;
-    each(output, "var", &tables.variables, |out, var| {
+    each(output, "rule", tables.rules.as_slice(), write_rule)?;
+    each(output, "var", tables.bindings.vars(), |out, var| {
         write!(out, " {} {}", var.name.0, var.ty.0)
     })?;
-    each(output, "out", &tables.output, write_node)
+    each(output, "out", tables.output.records(), write_node)
 }

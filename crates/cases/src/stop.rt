@@ -3,7 +3,6 @@ use items::Malformed;
 use reader::Unread;
 use records::refusal::Refusal;
 use std::alloc::AllocError;
-use std::num::TryFromIntError;
 use table::Full;
 use thiserror::Error;
 
@@ -35,13 +34,6 @@ impl From<Full> for Stop {
 
 impl From<Refusal> for Stop {
     fn from(_refusal: Refusal) -> Stop {
-        Stop::Full
-    }
-}
-
-/// The number of the next record is larger than any table.
-impl From<TryFromIntError> for Stop {
-    fn from(_error: TryFromIntError) -> Stop {
         Stop::Full
     }
 }

@@ -20,22 +20,7 @@ use Rattle.definition.specs.declared.grammar.Kind.TheVariants as kind
 use Rattle.elaborate.specs.Faults.{report}
 
 abbrev pub with_converters : Tables → Contents Converter → Tables
-with_converters v s = record {
-  text = v.text;
-  types = v.types;
-  constants = v.constants;
-  rules = v.rules;
-  definitions = v.definitions;
-  faults = v.faults;
-  terms = v.terms;
-  source = v.source;
-  output = v.output;
-  symbols = v.symbols;
-  converters = s;
-  variables = v.variables;
-  scopes = v.scopes;
-  expand_internal_extractors = v.expand_internal_extractors;
-}
+with_converters v s = record v { converters = s }
 
 -- one more converter; a full list refuses it
 abbrev pub add_converter : Key → TermId → Step (Unit {0})

@@ -8,22 +8,7 @@ use Rattle.tables.specs.Steps.{Step, onto}
 use Rattle.tables.specs.declared.Tables.{Tables}
 
 abbrev pub with_faults : Tables → Contents Fault → Tables
-with_faults v s = record {
-  text = v.text;
-  types = v.types;
-  constants = v.constants;
-  rules = v.rules;
-  definitions = v.definitions;
-  faults = s;
-  terms = v.terms;
-  source = v.source;
-  output = v.output;
-  symbols = v.symbols;
-  converters = v.converters;
-  variables = v.variables;
-  scopes = v.scopes;
-  expand_internal_extractors = v.expand_internal_extractors;
-}
+with_faults v s = record v { faults = s }
 
 -- one more fault; a full list refuses it
 abbrev pub report : Cause → Pos → Step (Unit {0})

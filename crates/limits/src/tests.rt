@@ -1,41 +1,15 @@
+// Tests of tables and opening.
+use crate::making::{FOUR, add_pattern, add_symbol, environment, no_place};
 use elaborate::open;
-use records::env::{ExtractorKind, Symbol, Term, TermFlags, TermKind};
+use records::env::{ExtractorKind, Term, TermFlags, TermKind};
 use records::fault::{Cause, Fault};
 use records::ids::{Sym, TypeId};
 use records::refusal::Values;
-use records::source::{Name, Node, Part, Pattern, Pos, Source};
+use records::source::{Part, Pattern, Pos};
 use std::alloc::Global;
 use std::test::Fail;
 use table::Table;
-use tables::{Limits, Tables};
-
-const NOWHERE: Pos = Pos { file: 0, offset: 0 };
-
-/// The tables of a test have to hold it. A helper answers, and the test fails: so no helper may abort.
-fn no_place<E: Drop>(_error: E) -> Fail {
-    Fail::new("a table has no place for what the test adds")
-}
-
-/// The built-in environment, with room for all that an elaboration may hold.
-fn environment(heap: Global) -> Result<Tables, Fail> {
-    let mut tables = Tables::new(heap, &Limits::MAX, true)?;
-    tables.add_builtins().map_err(no_place)?;
-    Ok(tables)
-}
-
-fn add_symbol(tables: &mut Tables, bytes: &[u8]) -> Result<(), Fail> {
-    let name = tables.add_name(bytes).map_err(no_place)?;
-    tables.add_symbol(Symbol { name }).map_err(no_place)
-}
-
-fn add_pattern(tables: &mut Tables, pattern: Pattern, size: u16) -> Result<(), Fail> {
-    let node = Node::Pattern(pattern);
-    let pos = NOWHERE;
-    tables
-        .source
-        .push(Source { node, size, pos })
-        .map_err(no_place)
-}
+use tables::Tables;
 
 /// A term named by symbol 13 whose template is the whole source list.
 fn add_template_term(heap: Global, tables: &mut Tables) -> Result<(), Fail> {
@@ -98,7 +72,7 @@ fn a_table_exactly_full_and_one_over(rt: HostRuntime) -> Result<(), Fail> {
 fn a_refusal_leaves_what_opening_empties(rt: HostRuntime) -> Result<(), Fail> {
     let mut tables = environment(rt.alloc())?;
     let cause = Cause::RootNotTerm;
-    let pos = NOWHERE;
+    let pos = Pos { file: 0, offset: 0 };
     assert!(rt; tables.faults.push(Fault { cause, pos }).is_ok());
     add_symbol(&mut tables, b"")?;
     let Err((mut tables, _refusal)) = open(tables) else {
@@ -119,7 +93,7 @@ fn a_refusal_leaves_what_opening_empties(rt: HostRuntime) -> Result<(), Fail> {
 fn the_deepest_template(rt: HostRuntime) -> Result<(), Fail> {
     let mut tables = environment(rt.alloc())?;
     add_symbol(&mut tables, b"deep")?;
-    let var = Name { start: 0, len: 4 };
+    let var = FOUR;
     add_pattern(&mut tables, Pattern::Wildcard, 1)?;
     for size in 2..=65_535u16 {
         add_pattern(&mut tables, Pattern::BindPattern { var }, size)?;

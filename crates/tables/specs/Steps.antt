@@ -30,58 +30,13 @@ onto t put_back (done s a) = done (put_back s) a
 onto t put_back (refused s e) = refused (put_back s) (refusal.Full t)
 
 abbrev pub with_text : Tables → Contents ℕ → Tables
-with_text v s = record {
-  text = s;
-  types = v.types;
-  constants = v.constants;
-  rules = v.rules;
-  definitions = v.definitions;
-  faults = v.faults;
-  terms = v.terms;
-  source = v.source;
-  output = v.output;
-  symbols = v.symbols;
-  converters = v.converters;
-  variables = v.variables;
-  scopes = v.scopes;
-  expand_internal_extractors = v.expand_internal_extractors;
-}
+with_text v s = record v { text = s }
 
 abbrev pub with_types : Tables → Contents Ty → Tables
-with_types v s = record {
-  text = v.text;
-  types = s;
-  constants = v.constants;
-  rules = v.rules;
-  definitions = v.definitions;
-  faults = v.faults;
-  terms = v.terms;
-  source = v.source;
-  output = v.output;
-  symbols = v.symbols;
-  converters = v.converters;
-  variables = v.variables;
-  scopes = v.scopes;
-  expand_internal_extractors = v.expand_internal_extractors;
-}
+with_types v s = record v { types = s }
 
 abbrev pub with_symbols : Tables → Contents Symbol → Tables
-with_symbols v s = record {
-  text = v.text;
-  types = v.types;
-  constants = v.constants;
-  rules = v.rules;
-  definitions = v.definitions;
-  faults = v.faults;
-  terms = v.terms;
-  source = v.source;
-  output = v.output;
-  symbols = s;
-  converters = v.converters;
-  variables = v.variables;
-  scopes = v.scopes;
-  expand_internal_extractors = v.expand_internal_extractors;
-}
+with_symbols v s = record v { symbols = s }
 
 -- the bytes of a name, at the end of the text
 abbrev pub add_name : List ℕ → Step Name

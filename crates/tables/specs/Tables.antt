@@ -1,6 +1,8 @@
 -- All tables of an elaboration, and the environment among them.
 use Rattle.std.specs.Prelude.{ℕ, min, Bool, List}
 use Rattle.table.specs.Contents.{empty, cut}
+use Rattle.bindings.specs.Bound.{nothing_bound, cleared as bindings_cleared}
+use Rattle.typed.specs.Trees.{no_trees, cleared as trees_cleared}
 use Rattle.records.specs.declared.env.Constant.{Constant}
 use Rattle.records.specs.declared.env.Symbol.{Symbol}
 use Rattle.records.specs.declared.env.Term.{Term}
@@ -39,29 +41,20 @@ fresh l expand = record {
   faults = empty (min l.faults 4096);
   terms = empty (min l.terms 8192);
   source = empty (min l.source 65535);
-  output = empty (min l.output 65535);
+  output = no_trees (min l.output 65535);
   symbols = empty (min l.symbols 16384);
   converters = empty (min l.converters 1024);
-  variables = empty (min l.variables 65535);
-  scopes = empty (min l.scopes 1024);
+  bindings = nothing_bound (min l.variables 65535) (min l.scopes 1024);
   expand_internal_extractors = expand;
 }
 
 -- the environment as it is, and nothing elaborated yet
 abbrev pub emptied : Tables → Tables
-emptied t = record {
-  text = t.text;
-  types = t.types;
-  constants = t.constants;
+emptied t = record t {
   rules = cut 0 t.rules;
   definitions = cut 0 t.definitions;
   faults = cut 0 t.faults;
-  terms = t.terms;
-  source = t.source;
-  output = cut 0 t.output;
-  symbols = t.symbols;
+  output = trees_cleared t.output;
   converters = cut 0 t.converters;
-  variables = cut 0 t.variables;
-  scopes = cut 0 t.scopes;
-  expand_internal_extractors = t.expand_internal_extractors;
+  bindings = bindings_cleared t.bindings;
 }

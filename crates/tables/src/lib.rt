@@ -8,12 +8,14 @@ mod making;
 mod names;
 mod template;
 
+use bindings::{Bindings, MAX_SCOPES, MAX_VARIABLES};
 pub use names::{BUILTINS, builtin_name};
 use records::env::{Constant, Symbol, Term, Type};
 use records::fault::Fault;
-use records::result::{BoundVar, Converter, Definition, Output, Rule, Scope};
+use records::result::{Converter, Definition, Rule};
 use records::source::Source;
 use table::Table;
+use typed::{MAX_OUTPUT, TypedTrees};
 
 pub const MAX_TEXT: usize = 1_048_576;
 
@@ -31,15 +33,9 @@ pub const MAX_TERMS: usize = 8_192;
 
 pub const MAX_SOURCE: usize = 65_535;
 
-pub const MAX_OUTPUT: usize = 65_535;
-
 pub const MAX_SYMBOLS: usize = 16_384;
 
 pub const MAX_CONVERTERS: usize = 1_024;
-
-pub const MAX_VARIABLES: usize = 65_535;
-
-pub const MAX_SCOPES: usize = 1_024;
 
 /// How many records each table is to have room for. A limit over the table's maximum counts as the maximum.
 #[derive(Clone, Copy)]
@@ -94,11 +90,10 @@ pub struct Tables {
     /// Definitions and templates, as trees.
     pub source: Table<Source, MAX_SOURCE>,
     /// The typed trees of the kept rules.
-    pub output: Table<Output, MAX_OUTPUT>,
+    pub output: TypedTrees,
     pub symbols: Table<Symbol, MAX_SYMBOLS>,
     pub converters: Table<Converter, MAX_CONVERTERS>,
-    pub variables: Table<BoundVar, MAX_VARIABLES>,
-    /// The scopes that are open.
-    pub scopes: Table<Scope, MAX_SCOPES>,
+    /// The variables of the kept rules, and the scopes that are open.
+    pub bindings: Bindings,
     pub expand_internal_extractors: bool,
 }

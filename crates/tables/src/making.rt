@@ -2,8 +2,10 @@ ghost use Rattle.std.specs.Prelude.{◌≡◌, IfOk};
 ghost use Rattle.tables.specs.Tables.{fresh, emptied};
 
 use crate::{Limits, Tables};
+use bindings::Bindings;
 use std::alloc::{AllocError, Global};
 use table::Table;
+use typed::TypedTrees;
 
 impl Tables {
     /// Empty tables of the given limits. All memory that an elaboration uses is claimed here.
@@ -22,11 +24,10 @@ impl Tables {
         let faults = Table::with_limit(heap, limits.faults)?;
         let terms = Table::with_limit(heap, limits.terms)?;
         let source = Table::with_limit(heap, limits.source)?;
-        let output = Table::with_limit(heap, limits.output)?;
+        let output = TypedTrees::with_limit(heap, limits.output)?;
         let symbols = Table::with_limit(heap, limits.symbols)?;
         let converters = Table::with_limit(heap, limits.converters)?;
-        let variables = Table::with_limit(heap, limits.variables)?;
-        let scopes = Table::with_limit(heap, limits.scopes)?;
+        let bindings = Bindings::with_limits(heap, limits.variables, limits.scopes)?;
         Ok(Tables {
             text,
             types,
@@ -39,8 +40,7 @@ impl Tables {
             output,
             symbols,
             converters,
-            variables,
-            scopes,
+            bindings,
             expand_internal_extractors,
         })
     }
@@ -52,9 +52,8 @@ impl Tables {
         self.rules.truncate(0);
         self.definitions.truncate(0);
         self.faults.truncate(0);
-        self.output.truncate(0);
+        self.output.clear();
         self.converters.truncate(0);
-        self.variables.truncate(0);
-        self.scopes.truncate(0);
+        self.bindings.clear();
     }
 }

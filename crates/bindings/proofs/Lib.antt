@@ -1,0 +1,2 @@
+pub mod Visible
+pub mod Laws

@@ -1,0 +1,38 @@
+// The typed trees that translating rules writes: those of the kept rules, and those of the rule at hand.
+#![tactic(auto)]
+
+ghost use Rattle.std.specs.Prelude.{◌≤◌, length};
+ghost use Rattle.typed.specs.Trees.{Trees};
+
+mod rules;
+mod writing;
+
+use records::result::Output;
+use std::marker::Model;
+use table::Table;
+
+pub const MAX_OUTPUT: usize = 65_535;
+
+/// How many records one rule may have.
+const MAX_RULE_OUTPUT: usize = 4_096;
+
+/// A place in the output: what is written from now on stands behind it.
+#[derive(Clone, Copy)]
+pub struct Mark(usize);
+
+/// The typed trees of the kept rules and of the rule at hand.
+#[derive(Drop)]
+pub struct TypedTrees {
+    records: Table<Output, MAX_OUTPUT>,
+    /// Where the records of the rule at hand begin.
+    first: usize,
+}
+
+/// To a contract its fields, with the table as its items and its limit.
+impl Model for TypedTrees {
+    ghost Value = { Trees };
+
+    ghost view = { λ t. record { records = t.records; first = t.first } };
+
+    ghost invariant = { λ t. t.first ≤ length t.records.items };
+}

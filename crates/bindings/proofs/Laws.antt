@@ -1,6 +1,6 @@
 -- What callers rely on of scopes and look-ups. The definitions may change: these laws are what stays.
-use Rattle.std.proofs.Common.{◌≡◌, ◌≢◌, ℕ, zero-add, ◌+◌, ◌-◌, ◌<◌, ◌≤◌, Bool, true, false, ◌⊎◌, inl, inr, List, [], ◌∷◌, ◌++◌, length, take, drop, Some, None, Option, Ok, Err, Result, IfOk, MatchOption, Contains, if◌then◌else◌, sym, refl, ap, ◌∙◌, arith}
-use Rattle.std.proofs.lemmas.Bool.{both_ways}
+use Rattle.std.proofs.Common.{◌≡◌, ◌≢◌, ℕ, zero-add, ◌+◌, ◌-◌, ◌<◌, ◌≤◌, Bool, true, false, ◌⊎◌, inl, inr, List, [], ◌∷◌, ◌++◌, length, take, drop, Some, None, Option, Ok, Err, Result, IfOk, IfErr, MatchOption, MatchResult, Contains, if◌then◌else◌, sym, refl, ap, ◌∙◌, arith}
+use Rattle.std.proofs.lemmas.Bool.{both_ways, false_from_ne_true}
 use Rattle.std.proofs.Math.Seq.{drop-length}
 use Rattle.std.proofs.lemmas.List.{take_all, drop-append-le, take_at, length-drop, length_push, take-append-drop}
 use Rattle.std.proofs.lemmas.List.Elements.{Contains-push_cases, Contains-append_left}
@@ -16,7 +16,7 @@ use Rattle.records.specs.declared.result.BoundVar.{BoundVar}
 use Rattle.records.specs.declared.result.Scope.{Scope}
 use Rattle.bindings.specs.Bound.{Bound, rule_vars, var_count, cleared, end_rule, drop_rule, entered, enter_scope, exit_scope, begin_rule, new_var, push_var, add_var, is_visible, last_var, lookup}
 use Rattle.bindings.specs.Facts.{NoneVisible, IsFound, Grows, IsNumbered}
-use Rattle.bindings.proofs.Visible.{last_var_push, last_var_tells, last_var_same, is_visible_decides, innermost_open, innermost_cases, other_hidden, more_scopes, at, Tells}
+use Rattle.bindings.proofs.Visible.{last_var_push, last_var_tells, last_var_none, last_var_some, NonePass, last_var_same, is_visible_decides, innermost_open, innermost_cases, other_hidden, more_scopes, at, Tells}
 
 -- a call that may refuse did one of two things
 one_of_two : {S A E : Type 0} (t : Bool) (s b c : S) (a : A) (e : E) (r : Result A E) → outcome c r ≡ (if t then done s a else refused b e)
@@ -33,20 +33,39 @@ in_front n xs x c = let both = Contains-append_left (take n xs) (drop n xs) x c 
 -- what a look-up answers
 module _ (name : Sym) (b : Bound) where
   told : (r : Option (VarId × BoundVar)) → Tells (is_visible name b.in_scope.items) 0 (rule_vars b) r → MatchOption r (NoneVisible name b 0) (λ m. IsFound name b m.0.0 m.1)
-  told None none = λ k v le e seen. both_ways _ (none k v le e) ((is_visible_decides name b.in_scope.items v).1 (seen.named, seen.open'))
+  told None none = λ k v le e seen. both_ways _ (none k v le e) ((is_visible_decides name b.in_scope.items v).1 (seen.named, seen.in_scope))
   told (Some m) (i, is, l) =
       let n : m.0.0 ≡ i = is ∙ zero-add i in
-      let (named, open') = (is_visible_decides name b.in_scope.items m.1).0 l.passes in
+      let (named, in_scope) = (is_visible_decides name b.in_scope.items m.1).0 l.passes in
       rw n (record {
         within = omega (arith, slice_get_within (rule_vars b) i m.1 l.there, length-drop b.first b.seen.items);
         there = l.there;
-        visible = record { named = named; open' = open' };
-        last = λ k v le e seen. both_ways _ (l.last k v le e) ((is_visible_decides name b.in_scope.items v).1 (seen.named, seen.open'));
+        visible = record { named = named; in_scope = in_scope };
+        last = λ k v le e seen. both_ways _ (l.last k v le e) ((is_visible_decides name b.in_scope.items v).1 (seen.named, seen.in_scope));
       })
 
   pub lookup-finds : MatchOption (lookup name b) (NoneVisible name b 0) (λ m. IsFound name b m.0.0 m.1)
   unfolding lookup
   lookup-finds = told _ (last_var_tells (is_visible name b.in_scope.items) 0 (rule_vars b))
+
+  hidden : (n : ℕ) → NoneVisible name b n → NonePass (is_visible name b.in_scope.items) n (rule_vars b)
+  hidden n none k v le e =
+      let tells = is_visible_decides name b.in_scope.items v in
+      false_from_ne_true _ (λ t. none k v le e (record { named = (tells.0 t).0; in_scope = (tells.0 t).1 }))
+
+  -- and nothing else may be its answer
+  pub lookup-none : NoneVisible name b 0 → lookup name b ≡ None
+  unfolding lookup
+  lookup-none none = last_var_none (is_visible name b.in_scope.items) 0 (rule_vars b) (hidden 0 none)
+
+  pub lookup-some : (n : ℕ) (v : BoundVar) → IsFound name b n v → lookup name b ≡ Some (record { 0 = n }, v)
+  unfolding lookup
+  lookup-some n v found =
+      last_var_some (is_visible name b.in_scope.items) 0 (rule_vars b) n v (record {
+        there = found.there;
+        passes = (is_visible_decides name b.in_scope.items v).1 (found.visible.named, found.visible.in_scope);
+        last = hidden (n + 1) found.last;
+      }) ∙ at v (zero-add n)
 
 -- adding a variable, whatever comes of it
 module _ (name : Sym) (ty : TypeId) (b : Bound) where
@@ -62,6 +81,11 @@ module _ (name : Sym) (ty : TypeId) (b : Bound) where
     pub add_var-scopes : (c.in_scope ≡ b.in_scope) × (c.next_scope ≡ b.next_scope) × (c.first ≡ b.first)
     unfolding added
     add_var-scopes = elim add_var-cases [ inl (e, q) ↦ rw e (refl, refl, refl) | inr (e, q) ↦ rw e (refl, refl, refl) ]
+
+    -- what is new, or why nothing is
+    pub add_var-adds : MatchResult r (λ n. (n.0 ≡ var_count b) × (c.seen.items ≡ b.seen.items ++ new_var name ty b ∷ [])) (λ e. (e ≡ refusal.Full table.Variables) × (c ≡ b))
+    unfolding added
+    add_var-adds = elim add_var-cases [ inl (e, q) ↦ rw (e, q) (refl, refl) | inr (e, q) ↦ rw (e, q) (refl, refl) ]
 
     pub add_var-grows : Grows b.seen.items c.seen.items
     unfolding added
@@ -144,18 +168,22 @@ module _ (b : Bound) where
     pub enter_scope-vars : (c.seen ≡ b.seen) × (c.first ≡ b.first)
     enter_scope-vars = elim enter_scope-cases [ inl (e, q) ↦ rw e (refl, refl) | inr (e, q) ↦ rw e (refl, refl) ]
 
+    -- a refusal changes nothing
+    pub enter_scope-refused : IfErr r (λ e. (e ≡ refusal.Full table.Scopes) × (c ≡ b))
+    enter_scope-refused = elim enter_scope-cases [ inl (e, q) ↦ rw q tt | inr (e, q) ↦ rw (e, q) (refl, refl) ]
+
     -- a scope is open then
     pub enter_scope-opens : IfOk r (λ _. 0 < length c.in_scope.items)
     enter_scope-opens = elim enter_scope-cases [ inl (e, q) ↦ rw (e, q) (omega (arith, length_push b.in_scope.items (record { 0 = b.next_scope }))) | inr (e, q) ↦ rw q tt ]
 
-    -- closing the scope gives the open scopes back
-    pub enter_scope-exit : IfOk r (λ _. (exit_scope c).in_scope ≡ b.in_scope)
+    -- closing the scope gives the open scopes back, whatever variables came in the meantime
+    pub enter_scope-exit : (d : Bound) → d.in_scope ≡ c.in_scope → IfOk r (λ _. (exit_scope d).in_scope ≡ b.in_scope)
     unfolding exit_scope
-    enter_scope-exit = elim enter_scope-cases [
+    enter_scope-exit d same = elim enter_scope-cases [
       | inl (e, q) ↦
           let last : Scope = record { 0 = b.next_scope } in
           let left = take_at b.in_scope.items (last ∷ []) (length (b.in_scope.items ++ last ∷ []) - 1) (omega (arith, length_push b.in_scope.items last)) in
-          rw (e, q) (λ i. record { items = left i; limit = b.in_scope.limit })
+          rw q (rw same (rw e (λ i. record { items = left i; limit = b.in_scope.limit })))
       | inr (e, q) ↦ rw q tt
     ]
 

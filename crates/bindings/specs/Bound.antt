@@ -64,7 +64,7 @@ enter_scope b = if nat_lt b.next_scope 4294967295 && has_room b.in_scope then do
 unfoldable pub exit_scope : Bound → Bound
 exit_scope b = record b { in_scope = cut (length b.in_scope.items - 1) b.in_scope }
 
--- no variables of its own yet, and its own scope open
+-- no variables of its own yet, and its own scope open; where no scope may be, it is refused with none open
 unfoldable pub begin_rule : Bound → Outcome Bound (Unit {0}) Refusal
 begin_rule b = enter_scope (end_rule b)
 

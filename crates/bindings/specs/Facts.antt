@@ -9,7 +9,7 @@ use Rattle.bindings.specs.Bound.{Bound, rule_vars, var_count}
 -- the variable has the name, and its scope is open
 pub record IsVisible (name : Sym) (b : Bound) (v : BoundVar) : Type 0 where
   pub named : v.name ≡ name
-  pub open' : Contains b.in_scope.items v.scope
+  pub in_scope : Contains b.in_scope.items v.scope
 
 -- no variable of the rule from number n on is visible under the name
 abbrev pub NoneVisible : Sym → Bound → ℕ → Type 0

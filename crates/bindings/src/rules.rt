@@ -39,6 +39,7 @@ impl Bindings {
     }
 
     /// Begins a rule behind the variables there are, and opens its own scope, which has the number 0.
+    /// Under a limit of no scopes it refuses, and leaves the rule begun with no scope open.
     #[tactic(auto, unfolding(crate::specs::Bound::begin_rule))]
     pub fn begin_rule(&mut self) -> Result<(), Refusal>
         ensures { outcome self.new result ≡ begin_rule self.old }

@@ -142,6 +142,13 @@ found n xs up before ts us vs ws t k laid all more cut next number =
       ap (enumerate_from (n + length before)) (take_rest up (length before)) ∙ ap (λ m. enumerate_from (n + m) (drop m up)) start ∙ last.last,
     )
 
+-- what the last record says, and its place
+pub root_says : (n : ℕ) (xs : List Source) (t : Syntax) (d : Source) → enumerate_from n xs ≡ syntax_records t → (get_or xs (length xs - 1) d).node ≡ (root_at t).1
+root_says n xs t d laid = sym (ap (λ r. r.1.node) ((rooted_at n xs t laid).root d))
+
+pub root_place : (n : ℕ) (xs : List Source) (t : Syntax) (d : Source) → enumerate_from n xs ≡ syntax_records t → (get_or xs (length xs - 1) d).pos ≡ (root_at t).0.pos
+root_place n xs t d laid = sym (ap (λ r. r.1.pos) ((rooted_at n xs t laid).root d))
+
 -- what is said of an option that is none
 pub on_none : {X : Type 0} {P : Type 0} (Q : X → Type 0) (o : Option X) → o ≡ None → P → MatchOption o P Q
 on_none {P = P} Q o none p = subst (λ o. MatchOption o P Q) (sym none) p

@@ -39,3 +39,7 @@ pub record LaysOutRule (source : List Source) (p : Part) (r : RuleTree) : Type 0
   pub within : p.end ≤ length source
   pub laid_out : enumerate_from p.start (slice source p) ≡ rule_records r
   pub closed : HasNoMacros r
+
+-- the part lays out that rule and no other
+abbrev pub LaysOutOne : List Source → Part → RuleTree → Type 0
+LaysOutOne source p r = LaysOutRule source p r × ((s : RuleTree) → LaysOutRule source p s → s ≡ r)

@@ -1,30 +1,41 @@
 // What a tree's root says, and the trees right below it.
-ghost use Rattle.std.specs.Prelude.{◌≡◌, ◌-◌, length, take, Some, None, MatchOption, slice_get};
-ghost use Rattle.definition.specs.Syntax.{Syntax, LaysOut, IsPiece, root_at, children};
+ghost use Rattle.std.specs.Prelude.{◌≡◌, ◌+◌, ◌<◌, length, None, MatchOption, IfSome, slice_get};
+ghost use Rattle.std.specs.List.{enumerate_from, flat_map};
+ghost use Rattle.definition.specs.Syntax.{Syntax, LaysOut, IsPiece, syntax_records, root_at, children};
 
 use crate::siblings::{count, nth};
 use crate::source_tree::SourceTree;
 use records::source::Source;
 
 impl<'a> SourceTree<'a> {
+    /// The number of the root's record in the source list, and the record.
+    fn numbered_root(&self) -> (usize, Source)
+        ensures { (t : Syntax) → LaysOut self.now.first self.now.records.now t
+            → (result.0 ≡ (root_at t).0.number) × (result.1.node ≡ (root_at t).1) × (result.1.pos ≡ (root_at t).0.pos) }
+    {
+        let last = self.records.len() - 1;
+        (self.first + last, self.records[last])
+    }
+
     /// The root's record.
     pub fn root(&self) -> Source
         ensures says { (t : Syntax) → LaysOut self.now.first self.now.records.now t → result.node ≡ (root_at t).1 }
         ensures place { (t : Syntax) → LaysOut self.now.first self.now.records.now t → result.pos ≡ (root_at t).0.pos }
     {
-        self.records[self.records.len() - 1]
+        self.numbered_root().1
     }
 
     /// The number of the root's record in the source list.
     pub fn number(&self) -> usize
         ensures { (t : Syntax) → LaysOut self.now.first self.now.records.now t → result ≡ (root_at t).0.number }
     {
-        self.first + (self.records.len() - 1)
+        self.numbered_root().0
     }
 
     /// The records of the trees right below the root.
     fn below(&self) -> &'a [Source]
-        ensures { result.now ≡ take (length self.now.records.now - 1) self.now.records.now }
+        ensures few { length result.now < length self.now.records.now }
+        ensures trees { (t : Syntax) → LaysOut self.now.first self.now.records.now t → enumerate_from self.now.first result.now ≡ flat_map syntax_records (children t) }
     {
         &self.records[..self.records.len() - 1]
     }
@@ -36,13 +47,23 @@ impl<'a> SourceTree<'a> {
         count(self.below())
     }
 
+    /// The `k`-th of the trees right below the root: how many records stand before it, and its own.
+    fn records_of_child(&self, k: usize) -> Option<(usize, &'a [Source])>
+        ensures within { IfSome result (λ found. (0 < length found.1.now) × (found.0 + length found.1.now < length self.now.records.now)) }
+        ensures piece { (t : Syntax) → LaysOut self.now.first self.now.records.now t → MatchOption result
+            (slice_get (children t) k ≡ None)
+            (λ found. IsPiece (slice_get (children t) k) (self.now.first + found.0) found.1.now) }
+    {
+        nth(self.below(), k)
+    }
+
     /// The `k`-th of the trees right below the root, the first being the 0th.
     pub fn child(&self, k: usize) -> Option<SourceTree<'a>>
         ensures { (t : Syntax) → LaysOut self.now.first self.now.records.now t → MatchOption result
             (slice_get (children t) k ≡ None)
             (λ c. IsPiece (slice_get (children t) k) c.first c.records.now) }
     {
-        let (start, records) = nth(self.below(), k)?;
+        let (start, records) = self.records_of_child(k)?;
         Some(SourceTree {
             records,
             first: self.first + start,

@@ -1,11 +1,11 @@
-// The typed trees that translating rules writes: those of the kept rules, and those of the rule at hand.
+// The typed trees of rules, as records one after another.
 #![tactic(auto)]
 
 ghost use Rattle.std.specs.Prelude.{◌≤◌, length};
 ghost use Rattle.typed.specs.Trees.{Trees};
 
 mod rules;
-mod writing;
+mod trees;
 
 use records::result::Output;
 use std::marker::Model;
@@ -13,16 +13,13 @@ use table::Table;
 
 pub const MAX_OUTPUT: usize = 65_535;
 
-/// How many records one rule may have.
+/// How many records the trees of one rule may have.
 const MAX_RULE_OUTPUT: usize = 4_096;
 
-/// A place in the output: what is written from now on stands behind it.
-#[derive(Clone, Copy)]
-pub struct Mark(usize);
-
-/// The typed trees of the kept rules and of the rule at hand.
+/// The records of the kept rules and of the rule at hand.
 #[derive(Drop)]
 pub struct TypedTrees {
+    /// Each rule's records behind those of the rules before it.
     records: Table<Output, MAX_OUTPUT>,
     /// Where the records of the rule at hand begin.
     first: usize,
@@ -36,3 +33,7 @@ impl Model for TypedTrees {
 
     ghost invariant = { λ t. t.first ≤ length t.records.items };
 }
+
+/// A place between records: how many stand in front of it.
+#[derive(Clone, Copy)]
+pub struct Mark(usize);

@@ -1,4 +1,4 @@
-// Where a rule begins and ends, and which trees are its own.
+// Where a rule begins, and which records are its own.
 ghost use Rattle.std.specs.Prelude.{◌≡◌, min, IfOk};
 ghost use Rattle.typed.specs.Trees.{no_trees, cleared, begin_rule, drop_rule, rule_part};
 
@@ -9,7 +9,7 @@ use std::alloc::{AllocError, Global};
 use table::Table;
 
 impl TypedTrees {
-    /// No trees, with room up to the limit asked for, and never more than the maximum.
+    /// No records, with room up to the limit asked for, and never more than the maximum.
     pub fn with_limit(heap: Global, limit: usize) -> Result<TypedTrees, AllocError>
         ensures { IfOk result (λ t. t ≡ no_trees (min limit MAX_OUTPUT)) }
     {
@@ -17,22 +17,25 @@ impl TypedTrees {
         Ok(TypedTrees { records, first: 0 })
     }
 
-    /// Takes back the trees of all rules.
+    /// Takes back the records of all rules.
+    #[tactic(auto, unfolding(crate::specs::Trees::cleared, crate::specs::Trees::drop_rule))]
     pub fn clear(&mut self)
         ensures { self.new ≡ cleared self.old }
     {
         self.first = 0;
-        self.records.truncate(0);
+        self.drop_rule();
     }
 
-    /// Begins a rule behind the trees there are.
+    /// Begins a rule behind the records there are, which stay.
+    #[tactic(auto, unfolding(crate::specs::Trees::begin_rule))]
     pub fn begin_rule(&mut self)
         ensures { self.new ≡ begin_rule self.old }
     {
         self.first = self.records.len();
     }
 
-    /// Takes the rule's trees back.
+    /// Takes the rule's records back.
+    #[tactic(auto, unfolding(crate::specs::Trees::drop_rule))]
     pub fn drop_rule(&mut self)
         ensures { self.new ≡ drop_rule self.old }
     {

@@ -3,11 +3,12 @@ use crate::making::{FOUR, add_node, add_pattern, environment, no_place};
 use bindings::{Bindings, MAX_SCOPES, MAX_VARIABLES};
 use definition::SourceTree;
 use lookup::intern;
-use records::ids::{Sym, TermId, TypeId, VarId};
+use records::ids::{Sym, TermId, TypeId};
 use records::refusal::{Refusal, Values};
 use records::result::{TypedNode, TypedPattern};
 use records::source::{Expr, Node, Part, Pattern};
 use std::test::Fail;
+use tables::Tables;
 use typed::{MAX_OUTPUT, TypedTrees};
 
 /// The table that has no place, where that is why a call was refused.
@@ -42,13 +43,19 @@ fn variables_of_a_rule(rt: HostRuntime) -> Result<(), Fail> {
     for _ in 0..1_023 {
         bindings.add_var(Sym(0), TypeId(0)).map_err(no_place)?;
     }
-    assert_eq!(rt; bindings.add_var(Sym(1), TypeId(0)).ok(), Some(VarId(1_023)));
+    assert_eq!(rt;
+        bindings.add_var(Sym(1), TypeId(0)).ok().map(|var| var.0),
+        Some(1_023)
+    );
     let refused = bindings.add_var(Sym(2), TypeId(0)).err();
     assert_eq!(rt; refused.and_then(full_table), Some(11));
-    assert_eq!(rt; bindings.lookup(Sym(0)).map(|found| found.0), Some(VarId(1_022)));
+    assert_eq!(rt; bindings.lookup(Sym(0)).map(|found| found.0.0), Some(1_022));
     bindings.end_rule();
     bindings.begin_rule().map_err(no_place)?;
-    assert_eq!(rt; bindings.add_var(Sym(0), TypeId(0)).ok(), Some(VarId(0)));
+    assert_eq!(rt;
+        bindings.add_var(Sym(0), TypeId(0)).ok().map(|var| var.0),
+        Some(0)
+    );
     assert_eq!(rt; bindings.rule_part().start, 1_024);
     Ok(())
 }
@@ -59,11 +66,11 @@ fn scope_that_a_let_left_open(rt: HostRuntime) -> Result<(), Fail> {
     let mut bindings = Bindings::with_limits(rt.alloc(), MAX_VARIABLES, MAX_SCOPES)?;
     bindings.begin_rule().map_err(no_place)?;
     bindings.enter_scope().map_err(no_place)?;
-    let outer = bindings.add_var(Sym(20), TypeId(1)).map_err(no_place)?;
+    bindings.add_var(Sym(20), TypeId(1)).map_err(no_place)?;
     bindings.enter_scope().map_err(no_place)?;
     bindings.add_var(Sym(21), TypeId(2)).map_err(no_place)?;
     bindings.exit_scope();
-    assert_eq!(rt; bindings.lookup(Sym(20)).map(|found| found.0), Some(outer));
+    assert_eq!(rt; bindings.lookup(Sym(20)).map(|found| found.0.0), Some(0));
     assert!(rt; bindings.lookup(Sym(21)).is_none());
     Ok(())
 }
@@ -97,43 +104,53 @@ fn output_of_a_rule(rt: HostRuntime) -> Result<(), Fail> {
     Ok(())
 }
 
+/// The symbol that a name of these bytes gets.
+fn symbol_of(tables: &mut Tables, bytes: &[u8]) -> Result<u16, Fail> {
+    let name = tables.add_name(bytes).map_err(no_place)?;
+    let sym = intern(tables, name).map_err(no_place)?;
+    Ok(sym.0)
+}
+
 /// A name that is there already, and two that differ in the last byte.
 #[test]
 fn interned_names(rt: HostRuntime) -> Result<(), Fail> {
     let mut tables = environment(rt.alloc())?;
-    let i64_name = tables.add_name(b"i64").map_err(no_place)?;
-    assert_eq!(rt; intern(&mut tables, i64_name).ok(), Some(Sym(10)));
-    let edge = tables.add_name(b"edge").map_err(no_place)?;
-    assert_eq!(rt; intern(&mut tables, edge).ok(), Some(Sym(13)));
-    let edgy = tables.add_name(b"edgy").map_err(no_place)?;
-    assert_eq!(rt; intern(&mut tables, edgy).ok(), Some(Sym(14)));
-    let again = tables.add_name(b"edge").map_err(no_place)?;
-    assert_eq!(rt; intern(&mut tables, again).ok(), Some(Sym(13)));
+    let names = [b"i64".as_slice(), b"edge", b"edgy", b"edge"];
+    for (bytes, sym) in names.iter().zip([10, 13, 14, 13]) {
+        assert_eq!(rt; symbol_of(&mut tables, bytes)?, sym);
+    }
     assert_eq!(rt; tables.symbols.len(), 15);
     Ok(())
 }
 
-/// A rule of 65,535 records, nearly each in the next.
-#[test]
-fn the_deepest_rule(rt: HostRuntime) -> Result<(), Fail> {
-    let mut tables = environment(rt.alloc())?;
-    add_pattern(&mut tables, Pattern::Wildcard, 1)?;
+/// One pattern in the next, a variable and the rule over them: 65,535 records.
+fn add_deepest_rule(tables: &mut Tables) -> Result<(), Fail> {
+    add_pattern(tables, Pattern::Wildcard, 1)?;
     for size in 2..=65_533u16 {
-        add_pattern(&mut tables, Pattern::BindPattern { var: FOUR }, size)?;
+        add_pattern(tables, Pattern::BindPattern { var: FOUR }, size)?;
     }
-    add_node(&mut tables, Node::Expr(Expr::Var { name: FOUR }), 1)?;
+    add_node(tables, Node::Expr(Expr::Var { name: FOUR }), 1)?;
     let rule = Node::Rule {
         prio: None,
         name: None,
     };
-    add_node(&mut tables, rule, 65_535)?;
+    add_node(tables, rule, 65_535)
+}
+
+#[test]
+fn the_deepest_rule(rt: HostRuntime) -> Result<(), Fail> {
+    let mut tables = environment(rt.alloc())?;
+    add_deepest_rule(&mut tables)?;
     let part = Part {
         start: 0,
         end: 65_535,
     };
     let tree = SourceTree::read_rule(tables.source.as_slice(), part).map_err(no_place)?;
     assert_eq!(rt; tree.number(), 65_534);
-    assert_eq!(rt; tree.rule_pattern().map(|pattern| pattern.number()), Some(65_532));
+    assert_eq!(rt;
+        tree.rule_pattern().map(|pattern| pattern.number()),
+        Some(65_532)
+    );
     assert_eq!(rt; tree.rule_expr().map(|expr| expr.number()), Some(65_533));
     assert_eq!(rt; tree.if_lets(), 0);
     Ok(())

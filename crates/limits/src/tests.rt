@@ -68,23 +68,38 @@ fn a_table_exactly_full_and_one_over(rt: HostRuntime) -> Result<(), Fail> {
     Ok(())
 }
 
+/// A fault, and a symbol that is not lawful.
+fn add_fault_and_empty_name(tables: &mut Tables) -> Result<(), Fail> {
+    let cause = Cause::RootNotTerm;
+    let pos = Pos { file: 0, offset: 0 };
+    tables.faults.push(Fault { cause, pos }).map_err(no_place)?;
+    add_symbol(tables, b"")
+}
+
+/// The tables that opening hands back.
+fn handed_back(tables: Tables) -> Option<Tables> {
+    open(tables).err().map(|refused| refused.0)
+}
+
+/// The tables as opening leaves them.
+fn opened(tables: Tables) -> Option<Tables> {
+    open(tables).ok().map(|opening| opening.into_tables())
+}
+
+/// How many faults there are after a refused opening, and after an accepted one.
+fn faults_left(tables: Tables) -> Option<(usize, usize)> {
+    let mut tables = handed_back(tables)?;
+    let refused = tables.faults.len();
+    tables.symbols.truncate(13);
+    let tables = opened(tables)?;
+    Some((refused, tables.faults.len()))
+}
+
 #[test]
 fn a_refusal_leaves_what_opening_empties(rt: HostRuntime) -> Result<(), Fail> {
     let mut tables = environment(rt.alloc())?;
-    let cause = Cause::RootNotTerm;
-    let pos = Pos { file: 0, offset: 0 };
-    assert!(rt; tables.faults.push(Fault { cause, pos }).is_ok());
-    add_symbol(&mut tables, b"")?;
-    let Err((mut tables, _refusal)) = open(tables) else {
-        return Err(Fail::new("a name of 0 bytes passed"));
-    };
-    assert_eq!(rt; tables.faults.len(), 1);
-    tables.symbols.truncate(13);
-    let Ok(opening) = open(tables) else {
-        return Err(Fail::new("lawful tables were refused"));
-    };
-    assert_eq!(rt; opening.tables().faults.len(), 0);
-    assert!(rt; open(opening.into_tables()).is_ok());
+    add_fault_and_empty_name(&mut tables)?;
+    assert_eq!(rt; faults_left(tables), Some((1, 0)));
     Ok(())
 }
 

@@ -149,6 +149,9 @@ root_says n xs t d laid = sym (ap (λ r. r.1.node) ((rooted_at n xs t laid).root
 pub root_place : (n : ℕ) (xs : List Source) (t : Syntax) (d : Source) → enumerate_from n xs ≡ syntax_records t → (get_or xs (length xs - 1) d).pos ≡ (root_at t).0.pos
 root_place n xs t d laid = sym (ap (λ r. r.1.pos) ((rooted_at n xs t laid).root d))
 
+pub root_size : (n : ℕ) (xs : List Source) (t : Syntax) (d : Source) → enumerate_from n xs ≡ syntax_records t → (get_or xs (length xs - 1) d).size ≡ length (syntax_records t)
+root_size n xs t d laid = (rooted_at n xs t laid).size d ∙ sym (length-enumerate_from n xs) ∙ ap length laid
+
 -- what is said of an option that is none
 pub on_none : {X : Type 0} {P : Type 0} (Q : X → Type 0) (o : Option X) → o ≡ None → P → MatchOption o P Q
 on_none {P = P} Q o none p = subst (λ o. MatchOption o P Q) (sym none) p

@@ -11,7 +11,7 @@ impl<'a> SourceTree<'a> {
     /// The number of the root's record in the source list, and the record.
     fn numbered_root(&self) -> (usize, Source)
         ensures { (t : Syntax) → LaysOut self.now.first self.now.records.now t
-            → (result.0 ≡ (root_at t).0.number) × (result.1.node ≡ (root_at t).1) × (result.1.pos ≡ (root_at t).0.pos) }
+            → (result.0 ≡ (root_at t).0.number) × (result.1.node ≡ (root_at t).1) × (result.1.pos ≡ (root_at t).0.pos) × (result.1.size ≡ length (syntax_records t)) }
     {
         let last = self.records.len() - 1;
         (self.first + last, self.records[last])
@@ -21,6 +21,7 @@ impl<'a> SourceTree<'a> {
     pub fn root(&self) -> Source
         ensures says { (t : Syntax) → LaysOut self.now.first self.now.records.now t → result.node ≡ (root_at t).1 }
         ensures place { (t : Syntax) → LaysOut self.now.first self.now.records.now t → result.pos ≡ (root_at t).0.pos }
+        ensures size { (t : Syntax) → LaysOut self.now.first self.now.records.now t → result.size ≡ length (syntax_records t) }
     {
         self.numbered_root().1
     }

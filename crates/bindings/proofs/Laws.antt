@@ -1,11 +1,12 @@
 -- What callers rely on of scopes and look-ups. The definitions may change: these laws are what stays.
-use Rattle.std.proofs.Common.{◌≡◌, ◌≢◌, ℕ, zero-add, ◌+◌, ◌-◌, ◌<◌, ◌≤◌, Bool, true, false, ◌⊎◌, inl, inr, List, [], ◌∷◌, ◌++◌, length, take, drop, Some, None, Option, Ok, Err, Result, IfOk, IfErr, MatchOption, MatchResult, Contains, if◌then◌else◌, sym, refl, ap, ◌∙◌, arith}
+use Rattle.std.proofs.Common.{◌≡◌, ◌≢◌, ℕ, zero-add, ◌+◌, ◌-◌, ◌<◌, ◌≤◌, false, ◌⊎◌, inl, inr, List, [], ◌∷◌, ◌++◌, length, take, drop, Some, None, Option, Ok, Err, Result, IfOk, IfErr, MatchOption, MatchResult, Contains, sym, refl, ap, ◌∙◌, arith}
 use Rattle.std.proofs.lemmas.Bool.{both_ways, false_from_ne_true}
 use Rattle.std.proofs.Math.Seq.{drop-length}
-use Rattle.std.proofs.lemmas.List.{take_all, drop-append-le, take_at, length-drop, length_push, take-append-drop}
+use Rattle.std.proofs.lemmas.List.{append-nil, take_all, drop-append-le, take_at, length-drop, length_push, take-append-drop}
 use Rattle.std.proofs.lemmas.List.Elements.{Contains-push_cases, Contains-append_left}
-use Rattle.std.proofs.lemmas.Option.{slice_get_within}
-use Rattle.table.specs.Contents.{done, refused, outcome, cut, extended}
+use Rattle.std.proofs.lemmas.Option.{get_or_from_slice_get, slice_get_within}
+use Rattle.table.specs.Contents.{outcome, cut, extended}
+use Rattle.table.proofs.Outcomes.{one_of_two}
 use Rattle.records.specs.declared.ids.Sym.{Sym}
 use Rattle.records.specs.declared.ids.TypeId.{TypeId}
 use Rattle.records.specs.declared.ids.VarId.{VarId}
@@ -14,17 +15,9 @@ use Rattle.records.specs.declared.refusal.Refusal.TheVariants as refusal
 use Rattle.records.specs.declared.refusal.TableId.TheVariants as table
 use Rattle.records.specs.declared.result.BoundVar.{BoundVar}
 use Rattle.records.specs.declared.result.Scope.{Scope}
-use Rattle.bindings.specs.Bound.{Bound, rule_vars, var_count, cleared, end_rule, drop_rule, entered, enter_scope, exit_scope, begin_rule, new_var, push_var, add_var, is_visible, last_var, lookup}
+use Rattle.bindings.specs.Bound.{Bound, rule_vars, var_count, cleared, end_rule, drop_rule, entered, enter_scope, exit_scope, begin_rule, innermost, new_var, push_var, add_var, is_visible, last_var, lookup}
 use Rattle.bindings.specs.Facts.{NoneVisible, IsFound, Grows, IsNumbered}
-use Rattle.bindings.proofs.Visible.{last_var_push, last_var_tells, last_var_none, last_var_some, NonePass, last_var_same, is_visible_decides, innermost_open, innermost_cases, other_hidden, more_scopes, at, Tells}
-
--- a call that may refuse did one of two things
-one_of_two : {S A E : Type 0} (t : Bool) (s b c : S) (a : A) (e : E) (r : Result A E) → outcome c r ≡ (if t then done s a else refused b e)
-    → ((t ≡ true) × (c ≡ s) × (r ≡ Ok a)) ⊎ ((t ≡ false) × (c ≡ b) × (r ≡ Err e))
-one_of_two true s b c a e (Ok x) h = inl (refl, (cc), (cc))
-one_of_two true s b c a e (Err x) h = absurd (cc)
-one_of_two false s b c a e (Ok x) h = absurd (cc)
-one_of_two false s b c a e (Err x) h = inr (refl, (cc), (cc))
+use Rattle.bindings.proofs.Visible.{last_var_push, last_var_tells, last_var_none, last_var_some, NonePass, last_var_same, last_var_front, is_visible_decides, innermost_open, innermost_push, innermost_cases, other_hidden, more_scopes, at, Tells}
 
 -- a part of a list has only its items
 in_front : {X : Type 0} (n : ℕ) (xs : List X) (x : X) → Contains (take n xs) x → Contains xs x
@@ -176,6 +169,10 @@ module _ (b : Bound) where
     pub enter_scope-opens : IfOk r (λ _. 0 < length c.in_scope.items)
     enter_scope-opens = elim enter_scope-cases [ inl (e, q) ↦ rw (e, q) (omega (arith, length_push b.in_scope.items (record { 0 = b.next_scope }))) | inr (e, q) ↦ rw q tt ]
 
+    -- it is the innermost then, under a number that the rule had not used
+    pub enter_scope-innermost : IfOk r (λ _. innermost c.in_scope.items ≡ record { 0 = b.next_scope })
+    enter_scope-innermost = elim enter_scope-cases [ inl (e, q) ↦ rw (e, q) (innermost_push b.in_scope.items (record { 0 = b.next_scope })) | inr (e, q) ↦ rw q tt ]
+
     -- closing the scope gives the open scopes back, whatever variables came in the meantime
     pub enter_scope-exit : (d : Bound) → d.in_scope ≡ c.in_scope → IfOk r (λ _. (exit_scope d).in_scope ≡ b.in_scope)
     unfolding exit_scope
@@ -203,6 +200,39 @@ module _ (b : Bound) where
   pub exit_scope-numbered : IsNumbered b → IsNumbered (exit_scope b)
   unfolding exit_scope
   exit_scope-numbered h = record { within = h.within; begun = h.begun; vars = h.vars; scopes = λ s c. h.scopes s (in_front _ b.in_scope.items s c) }
+
+-- a variable of a scope that is opened later is not visible
+later_hidden : (b : Bound) → IsNumbered b → (name : Sym) (v : BoundVar) → b.next_scope ≤ v.scope.0 → is_visible name b.in_scope.items v ≡ false
+later_hidden b h name v later = false_from_ne_true _ (λ t. omega (arith, later, h.scopes v.scope ((is_visible_decides name b.in_scope.items v).0 t).1))
+
+-- A let: its variables, and those of lets in it, have the scope that it opens or a later one. Once that scope is closed, each name means what it did.
+module _ (b c : Bound) (opened : outcome c (Ok tt) ≡ enter_scope b) (h : IsNumbered b) where
+  module _ (d : Bound) (same : d.in_scope ≡ c.in_scope) (vs : List BoundVar) (more : rule_vars d ≡ rule_vars b ++ vs) (later : (v : BoundVar) → Contains vs v → b.next_scope ≤ v.scope.0) where
+    pub scope-closed : (name : Sym) → lookup name (exit_scope d) ≡ lookup name b
+    unfolding lookup exit_scope
+    scope-closed name =
+        let p = is_visible name b.in_scope.items in
+        let closed = ap (λ s. s.items) (enter_scope-exit b c (Ok tt) opened d same) in
+        let none : NonePass p 0 vs = λ k v le e. later_hidden b h name v (later v (k, slice_get_within vs k v e, get_or_from_slice_get vs k v v e)) in
+        rw (closed, more) (last_var_front p 0 (rule_vars b) vs none)
+
+  -- a let of one variable
+  pub scope-closed-one : (var : Sym) (ty : TypeId) (d : Bound) (r : Result VarId Refusal) → outcome d r ≡ add_var var ty c → (name : Sym) → lookup name (exit_scope d) ≡ lookup name b
+  scope-closed-one var ty d r step name =
+      let (seen, first) = enter_scope-vars b c (Ok tt) opened in
+      let front : rule_vars c ≡ rule_vars b = rw (seen, first) refl in
+      let (same, _, _) = add_var-scopes var ty c d r step in
+      let within = (enter_scope-numbered b c (Ok tt) opened h).within in
+      let scope = enter_scope-innermost b c (Ok tt) opened in
+      elim (add_var-cases var ty c d r step) [
+        | inl (e, q) ↦
+            let more : rule_vars d ≡ rule_vars b ++ new_var var ty c ∷ [] = rw e (added-vars var ty c within) ∙ ap (λ vs. vs ++ new_var var ty c ∷ []) front in
+            scope-closed d same (new_var var ty c ∷ []) more (λ v there. elim (Contains-push_cases [] (new_var var ty c) v there) [
+              | inl (k, none, _) ↦ absurd (omega (arith, none))
+              | inr new ↦ omega (arith, ap (λ w. w.scope.0) new, ap (λ s. s.0) scope)
+            ]) name
+        | inr (e, q) ↦ scope-closed d same [] (rw e front ∙ sym (append-nil (rule_vars b))) (λ v (k, none, _). absurd (omega (arith, none))) name
+      ]
 
 -- the beginning of a rule, whatever comes of it
 module _ (b c : Bound) (r : Result (Unit {0}) Refusal) (step : outcome c r ≡ begin_rule b) where
@@ -242,6 +272,11 @@ module _ (b c : Bound) (r : Result (Unit {0}) Refusal) (step : outcome c r ≡ b
         })
     | inr (e, q) ↦ rw q tt
   ]
+
+-- the same by what the two steps of a beginning are
+pub begun_unbound : (b e c : Bound) (r : Result (Unit {0}) Refusal) → e ≡ end_rule b → outcome c r ≡ enter_scope e → (name : Sym) → lookup name c ≡ None
+unfolding begin_rule
+begun_unbound b e c r ended opened = begin_rule-unbound b c r (opened ∙ ap enter_scope ended)
 
 -- the end of a rule, and of all
 module _ (b : Bound) where

@@ -5,6 +5,7 @@ use Rattle.std.proofs.lemmas.List.Folds.{Any-from_list_any, list_any-from_Any, l
 use Rattle.std.proofs.lemmas.Option.{same_Some, none-some, unwrap_or-slice_get, get_or_from_slice_get, slice_get_within, slice_get-get_or}
 use Rattle.std.proofs.lemmas.List.Elements.{Contains-append_left, Contains-append_right, Contains-push, Contains-get_or}
 use Rattle.std.proofs.lemmas.Bool.{eqb-true, eq-eqb, false_from_ne_true}
+use Rattle.std.proofs.lemmas.List.{get_or_push, length_push}
 use Rattle.std.specs.List.{slice_get, list_any}
 use Rattle.std.specs.Option.{option_or}
 use Rattle.records.specs.declared.ids.Sym.{Sym}
@@ -76,6 +77,11 @@ module _ (p : BoundVar → Bool) where
       let next : IsLast p vs i v = record { there = h.there; passes = h.passes; last = none_tail _ (i + 1) w vs (omega arith) h.last } in
       rw (last_var_some (suc n) vs i v next) (at v (omega arith))
 
+-- what does not pass behind the others changes nothing
+pub last_var_front : (p : BoundVar → Bool) (n : ℕ) (us vs : List BoundVar) → NonePass p 0 vs → last_var p n (us ++ vs) ≡ last_var p n us
+last_var_front p n [] vs h = last_var_none p n vs h
+last_var_front p n (u ∷ us) vs h = rw (last_var_front p (suc n) us vs h) refl
+
 pub last_var_same : (p q : BoundVar → Bool) (n : ℕ) (vs : List BoundVar) → ((v : BoundVar) → Contains vs v → p v ≡ q v) → last_var p n vs ≡ last_var q n vs
 last_var_same p q n [] h = refl
 last_var_same p q n (v ∷ vs) h =
@@ -133,6 +139,10 @@ lookup_is b name vs scopes e f = λ i. last_var (is_visible name (f i)) 0 (e i)
 pub innermost_cases : (scopes : List Scope) → Contains scopes (innermost scopes) ⊎ (innermost scopes ≡ record { 0 = 0 })
 innermost_cases [] = inr refl
 innermost_cases (s ∷ scopes) = inl (innermost_open (s ∷ scopes) (grind arith))
+
+-- the innermost scope is the one behind the others
+pub innermost_push : (scopes : List Scope) (s : Scope) → innermost (scopes ++ s ∷ []) ≡ s
+innermost_push scopes s = unwrap_or-slice_get (scopes ++ s ∷ []) _ (record { 0 = 0 }) ∙ get_or_push scopes s (record { 0 = 0 }) _ (omega (arith, length_push scopes s))
 
 -- a variable with another name is not visible
 pub other_hidden : (name : Sym) (scopes : List Scope) (v : BoundVar) → name ≢ v.name → is_visible name scopes v ≡ false

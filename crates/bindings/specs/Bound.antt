@@ -2,7 +2,7 @@
 use Rattle.std.specs.Prelude.{ℕ, suc, ◌+◌, ◌-◌, Bool, ◌&&◌, List, [], ◌∷◌, length, drop, Some, None, Option, ◌==◌, nat_lt, if◌then◌else◌, unwrap_or}
 use Rattle.std.specs.List.{slice_get, list_any}
 use Rattle.std.specs.Option.{option_or}
-use Rattle.table.specs.Contents.{Contents, Outcome, done, refused, empty, cut, extended}
+use Rattle.table.specs.Contents.{Contents, Outcome, done, refused, empty, cut, extended, has_room}
 use Rattle.records.specs.declared.ids.Sym.{Sym}
 use Rattle.records.specs.declared.ids.TypeId.{TypeId}
 use Rattle.records.specs.declared.ids.VarId.{VarId}
@@ -33,9 +33,6 @@ var_count b = length b.seen.items - b.first
 
 abbrev pub rule_part : Bound → Part
 rule_part b = record { start = b.first; end = length b.seen.items }
-
-abbrev pub has_room : {T : Type 0} → Contents T → Bool
-has_room t = nat_lt (length t.items) t.limit
 
 -- nothing yet, under these limits
 abbrev pub nothing_bound : ℕ → ℕ → Bound

@@ -1,7 +1,8 @@
 // Where a rule begins and ends, and which variables are its own.
-ghost use Rattle.std.specs.Prelude.{◌≡◌, ◌≤◌, min, length, IfOk};
+ghost use Rattle.std.specs.Prelude.{◌≡◌, ◌≤◌, min, length, None, IfOk};
 ghost use Rattle.table.specs.Contents.{outcome};
-ghost use Rattle.bindings.specs.Bound.{nothing_bound, cleared, begin_rule, end_rule, drop_rule, rule_part};
+ghost use Rattle.records.specs.declared.ids.Sym.{Sym};
+ghost use Rattle.bindings.specs.Bound.{nothing_bound, cleared, begin_rule, end_rule, drop_rule, rule_part, lookup};
 
 use crate::{Bindings, MAX_SCOPES, MAX_VARIABLES};
 use records::refusal::Refusal;
@@ -40,9 +41,11 @@ impl Bindings {
 
     /// Begins a rule behind the variables there are, and opens its own scope, which has the number 0.
     /// Under a limit of no scopes it refuses, and leaves the rule begun with no scope open.
-    #[tactic(auto, unfolding(crate::specs::Bound::begin_rule))]
+    #[tactic(auto, using(crate::proofs::Laws::begun_unbound), unfolding(crate::specs::Bound::begin_rule))]
     pub fn begin_rule(&mut self) -> Result<(), Refusal>
-        ensures { outcome self.new result ≡ begin_rule self.old }
+        ensures value { outcome self.new result ≡ begin_rule self.old }
+        // No name means anything yet.
+        ensures unbound { (name : Sym) → lookup name self.new ≡ None }
     {
         self.end_rule();
         self.enter_scope()

@@ -23,7 +23,7 @@ fn last_visible(vars: &[BoundVar], in_scope: &[Scope], name: Sym) -> Option<usiz
         .rposition(|var| var.name == name && in_scope.contains(&var.scope))
 }
 
-/// The innermost open scope. A rule's own scope is open all along, since a let closes only what it opened: so scope 0 is never made up here.
+/// The innermost open scope. In a rule a scope is open at all times, since a let closes at most one: so scope 0 is never made up here.
 fn innermost(scopes: &[Scope]) -> Scope
     ensures { result ≡ innermost scopes.now }
 {

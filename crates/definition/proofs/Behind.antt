@@ -8,7 +8,7 @@ use Rattle.records.specs.declared.source.Source.{Source}
 use Rattle.tree.proofs.Forests.{split_same}
 use Rattle.definition.specs.PatternTrees.{node_record}
 use Rattle.definition.proofs.Laid.{by_root, enumerate-append}
-use Rattle.definition.specs.Syntax.{Syntax, syntax_records, root_at, children}
+use Rattle.definition.specs.Syntax.{Syntax, syntax_records, root_of, children}
 
 -- one tree behind others
 last_flat : (ts : List Syntax) (t : Syntax) → flat_map syntax_records (ts ++ t ∷ []) ≡ flat_map syntax_records ts ++ syntax_records t
@@ -42,7 +42,7 @@ number_of n xs front root laid = ap (λ r. r.0) (last_numbered n xs front root r
 pub record Rooted (n : ℕ) (xs : List Source) (t : Syntax) : Type 0 where
   pub some : 0 < length xs
   pub size : (d : Source) → (get_or xs (length xs - 1) d).size ≡ length xs
-  pub root : (d : Source) → node_record (root_at t).0 (root_at t).1 (length xs - 1) ≡ (n + (length xs - 1), get_or xs (length xs - 1) d)
+  pub root : (d : Source) → node_record (root_of t).0 (root_of t).1 (length xs - 1) ≡ (n + (length xs - 1), get_or xs (length xs - 1) d)
   pub below : enumerate_from n (take (length xs - 1) xs) ≡ flat_map syntax_records (children t)
 
 pub rooted_at : (n : ℕ) (xs : List Source) (t : Syntax) → enumerate_from n xs ≡ syntax_records t → Rooted n xs t
@@ -55,7 +55,7 @@ rooted_at n xs t laid =
     record {
       some = omega arith;
       size = λ d. ap (λ r. r.1.size) (sym (root d)) ∙ sym long;
-      root = λ d. ap (node_record (root_at t).0 (root_at t).1) last ∙ root d ∙ ap (λ k. (n + k, get_or xs (length xs - 1) d)) (sym last);
+      root = λ d. ap (node_record (root_of t).0 (root_of t).1) last ∙ root d ∙ ap (λ k. (n + k, get_or xs (length xs - 1) d)) (sym last);
       below = rw last front;
     }
 
@@ -143,10 +143,10 @@ found n xs up before ts us vs ws t k laid all more cut next number =
     )
 
 -- what the last record says, and its place
-pub root_says : (n : ℕ) (xs : List Source) (t : Syntax) (d : Source) → enumerate_from n xs ≡ syntax_records t → (get_or xs (length xs - 1) d).node ≡ (root_at t).1
+pub root_says : (n : ℕ) (xs : List Source) (t : Syntax) (d : Source) → enumerate_from n xs ≡ syntax_records t → (get_or xs (length xs - 1) d).node ≡ (root_of t).1
 root_says n xs t d laid = sym (ap (λ r. r.1.node) ((rooted_at n xs t laid).root d))
 
-pub root_place : (n : ℕ) (xs : List Source) (t : Syntax) (d : Source) → enumerate_from n xs ≡ syntax_records t → (get_or xs (length xs - 1) d).pos ≡ (root_at t).0.pos
+pub root_place : (n : ℕ) (xs : List Source) (t : Syntax) (d : Source) → enumerate_from n xs ≡ syntax_records t → (get_or xs (length xs - 1) d).pos ≡ (root_of t).0.pos
 root_place n xs t d laid = sym (ap (λ r. r.1.pos) ((rooted_at n xs t laid).root d))
 
 pub root_size : (n : ℕ) (xs : List Source) (t : Syntax) (d : Source) → enumerate_from n xs ≡ syntax_records t → (get_or xs (length xs - 1) d).size ≡ length (syntax_records t)
@@ -157,10 +157,10 @@ pub on_none : {X : Type 0} {P : Type 0} (Q : X → Type 0) (o : Option X) → o 
 on_none {P = P} Q o none p = subst (λ o. MatchOption o P Q) (sym none) p
 
 -- the number of the root
-pub numbered_root : (n : ℕ) (xs : List Source) (t : Syntax) → enumerate_from n xs ≡ syntax_records t → n + (length xs - 1) ≡ (root_at t).0.number
+pub numbered_root : (n : ℕ) (xs : List Source) (t : Syntax) → enumerate_from n xs ≡ syntax_records t → n + (length xs - 1) ≡ (root_of t).0.number
 numbered_root n xs t laid =
     let below = flat_map syntax_records (children t) in
-    let root = node_record (root_at t).0 (root_at t).1 (length below) in
+    let root = node_record (root_of t).0 (root_of t).1 (length below) in
     let split = laid ∙ by_root t in
     let long = (cut_two n xs below (root ∷ []) split).0 in
     omega (arith, long, number_of n xs below root split)

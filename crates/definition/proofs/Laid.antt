@@ -10,7 +10,7 @@ use Rattle.definition.specs.PatternTrees as p
 use Rattle.definition.specs.ExprTrees.{ExprTree, ExprTrees, let_def, LetDefTrees, no_defs, more_defs, expr_records, exprs_records, let_def_records, let_defs_records, expr_list, let_def_list}
 use Rattle.definition.specs.ExprTrees as e
 use Rattle.definition.specs.RuleTrees.{IfLetTree, if_let_records}
-use Rattle.definition.specs.Syntax.{Syntax, of_pattern, of_expr, of_let_def, of_if_let, of_rule, syntax_records, root_at, children}
+use Rattle.definition.specs.Syntax.{Syntax, of_pattern, of_expr, of_let_def, of_if_let, of_rule, syntax_records, root_of, children}
 
 -- the records of patterns are those of the patterns as trees
 patterns_flat : (qs : PatternTrees) → patterns_records qs ≡ flat_map syntax_records (map of_pattern (pattern_list qs))
@@ -33,7 +33,7 @@ if_lets_flat [] x = sym (append-nil (expr_records x))
 if_lets_flat (i ∷ is) x = append_assoc (if_let_records i) (flat_map if_let_records is) (expr_records x) ∙ ap (λ ys. if_let_records i ++ ys) (if_lets_flat is x)
 
 -- a tree's records are those of the trees right below it, then its root's
-pub by_root : (t : Syntax) → syntax_records t ≡ rooted (root_at t).0 (root_at t).1 (flat_map syntax_records (children t))
+pub by_root : (t : Syntax) → syntax_records t ≡ rooted (root_of t).0 (root_of t).1 (flat_map syntax_records (children t))
 by_root (of_pattern (p.bind_pattern at name q)) = ap (rooted at (node.Pattern (pattern.BindPattern name))) (sym (append-nil (pattern_records q)))
 by_root (of_pattern (p.term at name args)) = ap (rooted at (node.Pattern (pattern.Term name))) (patterns_flat args)
 by_root (of_pattern (p.«and» at qs)) = ap (rooted at (node.Pattern pattern.And)) (patterns_flat qs)

@@ -14,7 +14,7 @@ use Rattle.definition.specs.ExprTrees.{ExprTree, ExprTrees, LetDefTree, let_def,
 use Rattle.definition.specs.ExprTrees as e
 use Rattle.definition.specs.RuleTrees.{IfLetTree, RuleTree, rule_records}
 use Rattle.definition.proofs.Laid.{by_root}
-use Rattle.definition.specs.Syntax.{Syntax, of_pattern, of_expr, of_let_def, of_if_let, of_rule, syntax_records, root_at, children}
+use Rattle.definition.specs.Syntax.{Syntax, of_pattern, of_expr, of_let_def, of_if_let, of_rule, syntax_records, root_of, children}
 
 -- P holds of each of the trees
 abbrev pub AllTrees : (Syntax → Type 0) → List Syntax → Type 0
@@ -162,7 +162,7 @@ same_rule [] x = (refl, refl)
 same_rule (i ∷ is) x = let (if_lets, body) = same_rule is x in (ap (λ js. i ∷ js) if_lets, body)
 
 -- a tree is the one with its root over the trees right below it
-over_children : (t : Syntax) → over (root_at t).0 (root_at t).1 (children t) ≡ t
+over_children : (t : Syntax) → over (root_of t).0 (root_of t).1 (children t) ≡ t
 over_children (of_pattern (p.term at name args)) = ap (λ qs. of_pattern (p.term at name qs)) (same_patterns args)
 over_children (of_pattern (p.«and» at qs)) = ap (λ qs. of_pattern (p.«and» at qs)) (same_patterns qs)
 over_children (of_pattern other) = refl
@@ -201,7 +201,7 @@ read-append st (x ∷ xs) ys = read-append (push st x) xs ys
 
 -- each tree has a record
 some_records : (t : Syntax) → 0 < length (syntax_records t)
-some_records t = omega (arith, ap length (by_root t), length-append (flat_map syntax_records (children t)) (node_record (root_at t).0 (root_at t).1 (length (flat_map syntax_records (children t))) ∷ []))
+some_records t = omega (arith, ap length (by_root t), length-append (flat_map syntax_records (children t)) (node_record (root_of t).0 (root_of t).1 (length (flat_map syntax_records (children t))) ∷ []))
 
 -- no tree comes off for no record
 off_none : (st ts : List Syntax) → off 0 st ts ≡ (ts, st)
@@ -228,8 +228,8 @@ off_children ts st =
     rw count (off_stacked ts 0 st [] ∙ off_none st (ts ++ []) ∙ ap (λ us. (us, st)) (append-nil ts))
 
 -- the root of a tree, read behind the trees right below it, puts the tree on the stack
-push_root : (t : Syntax) (st : List Syntax) → push (stacked (children t) st) (node_record (root_at t).0 (root_at t).1 (length (flat_map syntax_records (children t)))) ≡ t ∷ st
-push_root t st = ap (λ p. over (root_at t).0 (root_at t).1 p.0 ∷ p.1) (off_children (children t) st) ∙ ap (λ u. u ∷ st) (over_children t)
+push_root : (t : Syntax) (st : List Syntax) → push (stacked (children t) st) (node_record (root_of t).0 (root_of t).1 (length (flat_map syntax_records (children t)))) ≡ t ∷ st
+push_root t st = ap (λ p. over (root_of t).0 (root_of t).1 p.0 ∷ p.1) (off_children (children t) st) ∙ ap (λ u. u ∷ st) (over_children t)
 
 -- the tree's records, read, put the tree on the stack
 abbrev Reads : Syntax → Type 0
@@ -244,7 +244,7 @@ read_trees (t ∷ ts) (first, all) st = read-append st (syntax_records t) (flat_
 read_root : (t : Syntax) → AllTrees Reads (children t) → Reads t
 read_root t all st =
     let ns = flat_map syntax_records (children t) in
-    let root = node_record (root_at t).0 (root_at t).1 (length ns) in
+    let root = node_record (root_of t).0 (root_of t).1 (length ns) in
     ap (read st) (by_root t) ∙ read-append st ns (root ∷ []) ∙ ap (λ s. push s root) (read_trees (children t) all st) ∙ push_root t st
 
 -- the records of each tree, read, put it on the stack

@@ -296,22 +296,6 @@ trees_of arity n (next f r g) us (lf, lg, size, below) (pf, pr) ms =
 pub tree_of : (arity n : ℕ) (r : Source) (g : Forest Source) → Lawful (source_rules arity) (next none r g) → Plain (kind_of r.node) → Tree arity n r g
 tree_of arity n r g (lf, lg, size, below) plain = root_tree arity n r g size plain below (trees_of arity n g [] lg (plain_below arity r 0 g plain below) tt)
 
--- a lawful tree of records with a pattern for its root reads as a pattern
-pub pattern_of : (arity n : ℕ) (r : Source) (g : Forest Source) → Lawful (source_rules arity) (next none r g) → kind_of r.node ≡ kind.Pattern
-    → (p : PatternTree) × (enumerate_from n (flat (next none r g)) ≡ pattern_records p) × MacrosBelow arity p
-pattern_of arity n r g lawful k =
-    let (t, same, laid, m) = tree_of arity n r g lawful (omega (arith, ap place k)) in
-    let (p, e, b) = as_pattern arity t (ap (λ l. same_kind l kind.Pattern) (same ∙ k)) m in
-    (p, laid ∙ e, b)
-
--- and one with an expression for its root as an expression
-pub expr_of : (arity n : ℕ) (r : Source) (g : Forest Source) → Lawful (source_rules arity) (next none r g) → kind_of r.node ≡ kind.Expr
-    → (x : ExprTree) × (enumerate_from n (flat (next none r g)) ≡ expr_records x)
-expr_of arity n r g lawful k =
-    let (t, same, laid, m) = tree_of arity n r g lawful (omega (arith, ap place k)) in
-    let (x, e) = as_expr t (ap (λ l. same_kind l kind.Expr) (same ∙ k)) in
-    (x, laid ∙ e)
-
 -- a lawful rule tree reads as a rule
 pub rule_of : (n : ℕ) (xs : List Source) → IsTreeOf kind.Rule xs → (r : RuleTree) × (enumerate_from n xs ≡ rule_records r) × HasNoMacros r
 rule_of n xs (r, g, shape, lawful, k) =

@@ -11,6 +11,7 @@ use Rattle.records.specs.declared.source.Node.TheVariants as node
 use Rattle.records.specs.declared.source.Pattern.TheVariants as pattern
 use Rattle.records.specs.declared.source.Source.{Source}
 use Rattle.tree.specs.Layout.{Forest, none, next, flat, empty, Below, Lawful}
+use Rattle.tree.proofs.Forests.{joined}
 use Rattle.definition.specs.Grammar.{kind_of, place, counts, child_kind, same_kind, source_rules}
 use Rattle.definition.specs.Lawful.{IsTreeOf}
 use Rattle.definition.specs.PatternTrees.{At, Numbered, node_record, rooted, PatternTree, PatternTrees, pattern_records, patterns_records, MacrosBelow, AllMacrosBelow}
@@ -38,11 +39,6 @@ plain-numbered n (x ∷ xs) = ap (λ ys. x ∷ ys) (plain-numbered (n + 1) xs)
 abbrev pub AllRoots : Kind → Forest Source → Type 0
 AllRoots k none = Unit {0}
 AllRoots k (next f r g) = AllRoots k f × (kind_of r.node ≡ k)
-
--- the trees of the first, then those of the second
-abbrev joined : Forest Source → Forest Source → Forest Source
-joined f none = f
-joined f (next g r k) = next (joined f g) r k
 
 -- what two forests joined lay out
 flat-joined : (f g : Forest Source) → flat (joined f g) ≡ flat f ++ flat g

@@ -5,3 +5,4 @@ pub mod PatternTrees
 pub mod ExprTrees
 pub mod RuleTrees
 pub mod Syntax
+pub mod Pieces

@@ -38,7 +38,7 @@ pub record HasNoMacros (r : RuleTree) : Type 0 where
 pub record LaysOutRule (source : List Source) (p : Part) (r : RuleTree) : Type 0 where
   pub within : p.end ≤ length source
   pub laid_out : enumerate_from p.start (slice source p) ≡ rule_records r
-  pub closed : HasNoMacros r
+  pub no_macros : HasNoMacros r
 
 -- the part lays out that rule and no other
 abbrev pub LaysOutOne : List Source → Part → RuleTree → Type 0

@@ -26,35 +26,35 @@ syntax_records (of_let_def d) = let_def_records d
 syntax_records (of_if_let i) = if_let_records i
 syntax_records (of_rule r) = rule_records r
 
-abbrev pub pattern_at : PatternTree → At × Node
-pattern_at (p.var at name) = (at, node.Pattern (node_pattern.Var name))
-pattern_at (p.bind_pattern at name q) = (at, node.Pattern (node_pattern.BindPattern name))
-pattern_at (p.const_bool at val) = (at, node.Pattern (node_pattern.ConstBool val))
-pattern_at (p.const_int at val) = (at, node.Pattern (node_pattern.ConstInt val))
-pattern_at (p.const_prim at name) = (at, node.Pattern (node_pattern.ConstPrim name))
-pattern_at (p.term at name args) = (at, node.Pattern (node_pattern.Term name))
-pattern_at (p.wildcard at) = (at, node.Pattern node_pattern.Wildcard)
-pattern_at (p.«and» at qs) = (at, node.Pattern node_pattern.And)
-pattern_at (p.macro_arg at index) = (at, node.Pattern (node_pattern.MacroArg index))
+abbrev pub pattern_root : PatternTree → At × Node
+pattern_root (p.var at name) = (at, node.Pattern (node_pattern.Var name))
+pattern_root (p.bind_pattern at name q) = (at, node.Pattern (node_pattern.BindPattern name))
+pattern_root (p.const_bool at val) = (at, node.Pattern (node_pattern.ConstBool val))
+pattern_root (p.const_int at val) = (at, node.Pattern (node_pattern.ConstInt val))
+pattern_root (p.const_prim at name) = (at, node.Pattern (node_pattern.ConstPrim name))
+pattern_root (p.term at name args) = (at, node.Pattern (node_pattern.Term name))
+pattern_root (p.wildcard at) = (at, node.Pattern node_pattern.Wildcard)
+pattern_root (p.«and» at qs) = (at, node.Pattern node_pattern.And)
+pattern_root (p.macro_arg at index) = (at, node.Pattern (node_pattern.MacroArg index))
 
-abbrev pub expr_at : ExprTree → At × Node
-expr_at (e.term at name args) = (at, node.Expr (node_expr.Term name))
-expr_at (e.var at name) = (at, node.Expr (node_expr.Var name))
-expr_at (e.const_bool at val) = (at, node.Expr (node_expr.ConstBool val))
-expr_at (e.const_int at val) = (at, node.Expr (node_expr.ConstInt val))
-expr_at (e.const_prim at name) = (at, node.Expr (node_expr.ConstPrim name))
-expr_at (e.«let» at defs body) = (at, node.Expr node_expr.Let)
+abbrev pub expr_root : ExprTree → At × Node
+expr_root (e.term at name args) = (at, node.Expr (node_expr.Term name))
+expr_root (e.var at name) = (at, node.Expr (node_expr.Var name))
+expr_root (e.const_bool at val) = (at, node.Expr (node_expr.ConstBool val))
+expr_root (e.const_int at val) = (at, node.Expr (node_expr.ConstInt val))
+expr_root (e.const_prim at name) = (at, node.Expr (node_expr.ConstPrim name))
+expr_root (e.«let» at defs body) = (at, node.Expr node_expr.Let)
 
-abbrev pub let_def_at : LetDefTree → At × Node
-let_def_at (let_def at name ty value) = (at, node.LetDef name ty)
+abbrev pub let_def_root : LetDefTree → At × Node
+let_def_root (let_def at name ty value) = (at, node.LetDef name ty)
 
 -- what the root says, and where it stands
-abbrev pub root_at : Syntax → At × Node
-root_at (of_pattern p) = pattern_at p
-root_at (of_expr e) = expr_at e
-root_at (of_let_def d) = let_def_at d
-root_at (of_if_let i) = (i.at, node.IfLet)
-root_at (of_rule r) = (r.at, node.Rule r.prio r.name)
+abbrev pub root_of : Syntax → At × Node
+root_of (of_pattern p) = pattern_root p
+root_of (of_expr e) = expr_root e
+root_of (of_let_def d) = let_def_root d
+root_of (of_if_let i) = (i.at, node.IfLet)
+root_of (of_rule r) = (r.at, node.Rule r.prio r.name)
 
 abbrev pub expr_children : ExprTree → List Syntax
 expr_children (e.term at name args) = map of_expr (expr_list args)
@@ -104,7 +104,3 @@ LaysOut first xs t = enumerate_from first xs ≡ syntax_records t
 -- the records are those of some tree
 abbrev pub IsSyntax : ℕ → List Source → Type 0
 IsSyntax first xs = (t : Syntax) × LaysOut first xs t
-
--- the records are those of the piece, which there is
-abbrev pub IsPiece : Option Syntax → ℕ → List Source → Type 0
-IsPiece piece first xs = (t : Syntax) × (piece ≡ Some t) × LaysOut first xs t

@@ -12,10 +12,7 @@ fn before_last(trees: &[Source]) -> Option<&[Source]>
         (ts ≡ [])
         (λ before. (us : List Syntax) × (t : Syntax) × (ts ≡ us ++ t ∷ []) × (before.now ≡ take (length (flat_map syntax_records us)) trees.now)) }
 {
-    let Some(root) = trees.last() else {
-        return None;
-    };
-    let size = root.size as usize;
+    let size = trees.last()?.size as usize;
     if size == 0 {
         return None;
     }

@@ -36,5 +36,5 @@ pub(crate) fn add_pattern(tables: &mut Tables, pattern: Pattern, size: u16) -> R
     add_node(tables, Node::Pattern(pattern), size)
 }
 
-/// The first four bytes of the text, as a name.
-pub(crate) const FOUR: Name = Name { start: 0, len: 4 };
+/// The name of the first built-in type.
+pub(crate) const BOOL: Name = Name { start: 0, len: 4 };

@@ -1,5 +1,5 @@
 // Tests of what translating a rule stands on: definitions, symbols, variables and scopes, output.
-use crate::making::{FOUR, add_node, add_pattern, environment, no_place};
+use crate::making::{BOOL, add_node, add_pattern, environment, no_place};
 use bindings::{Bindings, MAX_SCOPES, MAX_VARIABLES};
 use definition::SourceTree;
 use lookup::intern;
@@ -84,7 +84,6 @@ const WILDCARD: TypedNode = TypedNode::Pattern {
 #[test]
 fn output_of_a_rule(rt: HostRuntime) -> Result<(), Fail> {
     let mut trees = TypedTrees::with_limit(rt.alloc(), MAX_OUTPUT)?;
-    trees.begin_rule();
     let all = trees.mark();
     for _ in 0..4_095 {
         let here = trees.mark();
@@ -99,7 +98,7 @@ fn output_of_a_rule(rt: HostRuntime) -> Result<(), Fail> {
     let here = trees.mark();
     let refused = trees.push_tree(here, WILDCARD).err();
     assert_eq!(rt; refused.and_then(full_table), Some(8));
-    trees.begin_rule();
+    trees.end_rule();
     assert!(rt; trees.push_tree(here, WILDCARD).is_ok());
     Ok(())
 }
@@ -127,9 +126,9 @@ fn interned_names(rt: HostRuntime) -> Result<(), Fail> {
 fn add_deepest_rule(tables: &mut Tables) -> Result<(), Fail> {
     add_pattern(tables, Pattern::Wildcard, 1)?;
     for size in 2..=65_533u16 {
-        add_pattern(tables, Pattern::BindPattern { var: FOUR }, size)?;
+        add_pattern(tables, Pattern::BindPattern { var: BOOL }, size)?;
     }
-    add_node(tables, Node::Expr(Expr::Var { name: FOUR }), 1)?;
+    add_node(tables, Node::Expr(Expr::Var { name: BOOL }), 1)?;
     let rule = Node::Rule {
         prio: None,
         name: None,
@@ -145,13 +144,15 @@ fn the_deepest_rule(rt: HostRuntime) -> Result<(), Fail> {
         start: 0,
         end: 65_535,
     };
-    let tree = SourceTree::read_rule(tables.source.as_slice(), part).map_err(no_place)?;
+    let Ok(tree) = SourceTree::read_rule(tables.source.as_slice(), part) else {
+        return Err(Fail::new("a lawful rule was refused"));
+    };
     assert_eq!(rt; tree.number(), 65_534);
     assert_eq!(rt;
         tree.rule_pattern().map(|pattern| pattern.number()),
         Some(65_532)
     );
     assert_eq!(rt; tree.rule_expr().map(|expr| expr.number()), Some(65_533));
-    assert_eq!(rt; tree.if_lets(), 0);
+    assert_eq!(rt; tree.if_let_count(), 0);
     Ok(())
 }

@@ -1,5 +1,5 @@
 // Tests of tables and opening.
-use crate::making::{FOUR, add_pattern, add_symbol, environment, no_place};
+use crate::making::{BOOL, add_pattern, add_symbol, environment, no_place};
 use elaborate::open;
 use records::env::{ExtractorKind, Term, TermFlags, TermKind};
 use records::fault::{Cause, Fault};
@@ -108,10 +108,9 @@ fn a_refusal_leaves_what_opening_empties(rt: HostRuntime) -> Result<(), Fail> {
 fn the_deepest_template(rt: HostRuntime) -> Result<(), Fail> {
     let mut tables = environment(rt.alloc())?;
     add_symbol(&mut tables, b"deep")?;
-    let var = FOUR;
     add_pattern(&mut tables, Pattern::Wildcard, 1)?;
     for size in 2..=65_535u16 {
-        add_pattern(&mut tables, Pattern::BindPattern { var }, size)?;
+        add_pattern(&mut tables, Pattern::BindPattern { var: BOOL }, size)?;
     }
     add_template_term(rt.alloc(), &mut tables)?;
     assert_eq!(rt; refused(tables), None);

@@ -8,14 +8,16 @@ mod making;
 mod names;
 mod template;
 
-use bindings::{Bindings, MAX_SCOPES, MAX_VARIABLES};
+use bindings::Bindings;
+pub use bindings::{MAX_SCOPES, MAX_VARIABLES};
 pub use names::{BUILTINS, builtin_name};
 use records::env::{Constant, Symbol, Term, Type};
 use records::fault::Fault;
 use records::result::{Converter, Definition, Rule};
 use records::source::Source;
 use table::Table;
-use typed::{MAX_OUTPUT, TypedTrees};
+pub use typed::MAX_OUTPUT;
+use typed::TypedTrees;
 
 pub const MAX_TEXT: usize = 1_048_576;
 

@@ -12,6 +12,11 @@ split_same a b c d long e = (
   sym (drop_at a b (length a) refl) ∙ ap (drop (length a)) e ∙ drop_at c d (length a) (sym long),
 )
 
+-- the trees of the first, then those of the second
+abbrev pub joined : {N : Type 0} → Forest N → Forest N → Forest N
+joined f none = f
+joined f (next g r k) = next (joined f g) r k
+
 module _ {N : Type 0} where
   -- what a forest lays out, with the root of its last tree apart
   pub flat_next : (f : Forest N) (r : N) (g : Forest N) → flat (next f r g) ≡ (flat f ++ flat g) ++ r ∷ []
@@ -47,11 +52,11 @@ module _ {N : Type 0} (R : Rules N) where
       let same_below = unique k h lk lh below in
       λ i. next (same_front i) (root i) (same_below i)
 
-  -- the trees of the first, then those of the second
-  joined : (f g : Forest N) → Lawful R f → Lawful R g → IsForest R (flat f ++ flat g)
-  joined f none lf lg = (f, append-nil (flat f), lf)
-  joined f (next g r k) lf (lg, lk, size, below) =
-      let (h, e, lh) = joined f g lf lg in
+  -- what lays out two lawful forests, one after the other, lays out one
+  joined_lawful : (f g : Forest N) → Lawful R f → Lawful R g → IsForest R (flat f ++ flat g)
+  joined_lawful f none lf lg = (f, append-nil (flat f), lf)
+  joined_lawful f (next g r k) lf (lg, lk, size, below) =
+      let (h, e, lh) = joined_lawful f g lf lg in
       (next h r k, rw (← append_assoc (flat f) (flat g) _, e) refl, (lh, lk, size, below))
 
   -- the records in front of a place lay out trees too
@@ -66,7 +71,7 @@ module _ {N : Type 0} (R : Rules N) where
               let (h, e, lh) = front g lg m in
               let here : length (flat f) + m ≡ n = omega arith in
               let short : take m (flat g ++ r ∷ []) ≡ flat h = take-append-le m (flat g) (r ∷ []) (omega (arith, length_next f r g)) ∙ e in
-              rw (← here) (rw (take-append-add (flat f) (flat g ++ r ∷ []) m, short) (joined f h lf lh))
+              rw (← here) (rw (take-append-add (flat f) (flat g ++ r ∷ []) m, short) (joined_lawful f h lf lh))
           | inr all ↦ (next f r g, take_all n _ all, (lf, lg, size, below))
         ]
       ]

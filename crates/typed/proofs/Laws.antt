@@ -1,35 +1,24 @@
 -- What callers rely on of typed trees and marks, without the text of the definitions.
-use Rattle.std.proofs.Common.{◌≡◌, ℕ, ◌+◌, ◌-◌, ◌≤◌, max, Bool, true, false, ◌⊎◌, inl, inr, List, [], ◌∷◌, ◌++◌, length, take, drop, Ok, Err, Result, OnOk, if◌then◌else◌, sym, refl, ap, ◌∙◌, arith}
+use Rattle.std.proofs.Common.{◌≡◌, ℕ, ◌+◌, ◌-◌, ◌≤◌, max, ◌⊎◌, inl, inr, List, [], ◌∷◌, ◌++◌, length, take, drop, Ok, Err, Result, OnOk, sym, refl, ap, ◌∙◌, arith}
 use Rattle.std.proofs.Math.Seq.{drop-length}
 use Rattle.std.proofs.lemmas.Grind.{common_steps}
 use Rattle.std.proofs.lemmas.List.{append-nil, append_assoc, drop-append-le, drop-take, take-append-le, take_at, length-append, length-drop}
-use Rattle.table.specs.Contents.{done, refused, outcome, cut, extended}
+use Rattle.table.specs.Contents.{outcome, cut, extended}
+use Rattle.table.proofs.Outcomes.{one_of_two}
 use Rattle.tree.specs.Layout.{Forest, none, next}
+use Rattle.tree.proofs.Forests.{joined}
 use Rattle.records.specs.declared.refusal.Refusal.{Refusal}
 use Rattle.records.specs.declared.refusal.Refusal.TheVariants as refusal
 use Rattle.records.specs.declared.refusal.TableId.TheVariants as table
 use Rattle.records.specs.declared.result.Output.{Output}
 use Rattle.records.specs.declared.result.TypedNode.{TypedNode}
 use Rattle.typed.specs.declared.Mark.{Mark}
-use Rattle.typed.specs.Trees.{typed_records, Trees, rule_records, Stands, cleared, begin_rule, drop_rule, count_since, push_tree, take_back}
+use Rattle.typed.specs.Trees.{typed_records, Trees, rule_records, Stands, cleared, end_rule, drop_rule, count_since, push_tree, take_back}
 
--- the trees of the first, then those of the second
-pub joined : Forest TypedNode → Forest TypedNode → Forest TypedNode
-joined f none = f
-joined f (next g node h) = next (joined f g) node h
-
+-- what two forests joined lay out
 pub joined-records : (f g : Forest TypedNode) → typed_records (joined f g) ≡ typed_records f ++ typed_records g
-unfolding joined
 joined-records f none = sym (append-nil (typed_records f))
 joined-records f (next g node h) = rw (joined-records f g) (append_assoc (typed_records f) (typed_records g) _)
-
--- a call that may refuse did one of two things
-one_of_two : {S A E : Type 0} (t : Bool) (s b c : S) (a : A) (e : E) (r : Result A E) → outcome c r ≡ (if t then done s a else refused b e)
-    → ((c ≡ s) × (r ≡ Ok a)) ⊎ ((c ≡ b) × (r ≡ Err e))
-one_of_two true s b c a e (Ok x) h = inl ((cc), (cc))
-one_of_two true s b c a e (Err x) h = absurd (cc)
-one_of_two false s b c a e (Ok x) h = absurd (cc)
-one_of_two false s b c a e (Err x) h = inr ((cc), (cc))
 
 -- what a rule keeps of its records where they are cut at a mark
 pub rule_cut : {X : Type 0} (xs : List X) (first m : ℕ) → drop first (take (max m first) xs) ≡ take (m - first) (drop first xs)
@@ -56,7 +45,7 @@ module _ (since : Mark) (node : TypedNode) (t : Trees) (within : t.first ≤ len
   module _ (u : Trees) (r : Result (Unit {0}) Refusal) (step : outcome u r ≡ push_tree since node t) where
     push_tree-cases : ((u ≡ pushed) × (r ≡ Ok tt)) ⊎ ((u ≡ t) × (r ≡ Err (refusal.Full table.Output)))
     unfolding push_tree pushed
-    push_tree-cases = one_of_two _ pushed t u tt _ r step
+    push_tree-cases = elim (one_of_two _ pushed t u tt _ r step) [ inl (_, e, q) ↦ inl (e, q) | inr (_, e, q) ↦ inr (e, q) ]
 
     -- the root stands over the trees behind the mark
     pub push_tree-trees : (f g : Forest TypedNode) → rule_records t ≡ typed_records f ++ typed_records g → Stands since f t → OnOk r (rule_records u ≡ typed_records (next f node g))
@@ -87,15 +76,15 @@ module _ (mark : Mark) (t : Trees) (within : t.first ≤ length t.records.items)
   unfolding take_back
   take_back-within = grind (arith, common_steps)
 
--- the beginning of a rule, and its end without one
+-- the end of a rule, and of all
 module _ (t : Trees) where
-  pub begin_rule-trees : ((begin_rule t).records ≡ t.records) × (rule_records (begin_rule t) ≡ typed_records none)
-  unfolding begin_rule
-  begin_rule-trees = (refl, drop-length t.records.items)
+  pub end_rule-trees : ((end_rule t).records ≡ t.records) × (rule_records (end_rule t) ≡ typed_records none)
+  unfolding end_rule
+  end_rule-trees = (refl, drop-length t.records.items)
 
-  pub begin_rule-within : (begin_rule t).first ≤ length (begin_rule t).records.items
-  unfolding begin_rule
-  begin_rule-within = omega arith
+  pub end_rule-within : (end_rule t).first ≤ length (end_rule t).records.items
+  unfolding end_rule
+  end_rule-within = omega arith
 
   pub drop_rule-records : ((drop_rule t).first ≡ t.first) × ((drop_rule t).records ≡ cut t.first t.records)
   unfolding drop_rule

@@ -1,6 +1,6 @@
 -- Typed trees, the records that lay them out, and what the calls on them do.
 use Rattle.std.specs.Prelude.{◌≡◌, ℕ, ◌+◌, ◌-◌, max, Bool, ◌&&◌, List, [], ◌∷◌, ◌++◌, length, drop, nat_lt, if◌then◌else◌}
-use Rattle.table.specs.Contents.{Contents, Outcome, done, refused, empty, cut, extended}
+use Rattle.table.specs.Contents.{Contents, Outcome, done, refused, empty, cut, extended, has_room}
 use Rattle.tree.specs.Layout.{Forest, none, next}
 use Rattle.records.specs.declared.refusal.Refusal.{Refusal}
 use Rattle.records.specs.declared.refusal.Refusal.TheVariants as refusal
@@ -31,9 +31,6 @@ Stands mark f t = mark.0 ≡ t.first + length (typed_records f)
 abbrev pub rule_part : Trees → Part
 rule_part t = record { start = t.first; end = length t.records.items }
 
-abbrev pub has_room : {T : Type 0} → Contents T → Bool
-has_room t = nat_lt (length t.items) t.limit
-
 -- a rule has 4,096 records at most
 abbrev pub has_share : Trees → Bool
 has_share t = nat_lt (length t.records.items - t.first) 4096
@@ -46,8 +43,8 @@ unfoldable pub cleared : Trees → Trees
 cleared t = record { records = cut 0 t.records; first = 0 }
 
 -- all records stay, and the next rule's begin behind them
-unfoldable pub begin_rule : Trees → Trees
-begin_rule t = record { records = t.records; first = length t.records.items }
+unfoldable pub end_rule : Trees → Trees
+end_rule t = record { records = t.records; first = length t.records.items }
 
 -- the rule's records go
 unfoldable pub drop_rule : Trees → Trees

@@ -21,7 +21,7 @@ const MAX_RULE_OUTPUT: usize = 4_096;
 pub struct TypedTrees {
     /// Each rule's records behind those of the rules before it.
     records: Table<Output, MAX_OUTPUT>,
-    /// Where the records of the rule at hand begin.
+    /// Where the records of the rule at hand begin: behind all of them where none is.
     first: usize,
 }
 

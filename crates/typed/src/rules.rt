@@ -1,6 +1,6 @@
-// Where a rule begins, and which records are its own.
+// Where a rule ends, and which records are its own.
 ghost use Rattle.std.specs.Prelude.{◌≡◌, min, IfOk};
-ghost use Rattle.typed.specs.Trees.{no_trees, cleared, begin_rule, drop_rule, rule_part};
+ghost use Rattle.typed.specs.Trees.{no_trees, cleared, end_rule, drop_rule, rule_part};
 
 use crate::{MAX_OUTPUT, TypedTrees};
 use records::result::Output;
@@ -26,15 +26,15 @@ impl TypedTrees {
         self.drop_rule();
     }
 
-    /// Begins a rule behind the records there are, which stay.
-    #[tactic(auto, unfolding(crate::specs::Trees::begin_rule))]
-    pub fn begin_rule(&mut self)
-        ensures { self.new ≡ begin_rule self.old }
+    /// Keeps the rule's trees; the next rule's begin behind them.
+    #[tactic(auto, unfolding(crate::specs::Trees::end_rule))]
+    pub fn end_rule(&mut self)
+        ensures { self.new ≡ end_rule self.old }
     {
         self.first = self.records.len();
     }
 
-    /// Takes the rule's records back.
+    /// Takes the rule's records back; where none is at hand, nothing.
     #[tactic(auto, unfolding(crate::specs::Trees::drop_rule))]
     pub fn drop_rule(&mut self)
         ensures { self.new ≡ drop_rule self.old }

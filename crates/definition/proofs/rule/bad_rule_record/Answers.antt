@@ -11,5 +11,5 @@ returns c =
     let source = c.args.source.now in
     let p = c.args.part in
     match_map _ c.bad_record.result
-    (λ (within, tree). let (r, laid, closed) = rule_of p.start _ tree in (r, (record { within = within; laid_out = laid; closed = closed }, λ s l. one_rule s r (sym l.laid_out ∙ laid))))
-    (λ i bad. (bad, λ r l. lawful_has_none _ source p (l.within, rule_is_lawful _ _ r l.laid_out l.closed) i bad)) c.bad_record.ensures
+    (λ (within, tree). let (r, laid, closed) = rule_of p.start _ tree in (r, (record { within = within; laid_out = laid; no_macros = closed }, λ s l. one_rule s r (sym l.laid_out ∙ laid))))
+    (λ i bad. (bad, λ r l. lawful_has_none _ source p (l.within, rule_is_lawful _ _ r l.laid_out l.no_macros) i bad)) c.bad_record.ensures

@@ -1,6 +1,6 @@
 -- Trees one behind another in a list: where the last of them begins, and what is left without it.
 use Rattle.std.proofs.Common.{◌≡◌, ℕ, ◌+◌, ◌-◌, ◌<◌, ◌≤◌, List, [], ◌∷◌, ◌++◌, length, get_or, take, drop, sym, refl, ap, ◌∙◌, ◌⊎◌, inl, inr, Option, Some, None, MatchOption, slice_get, subst, arith}
-use Rattle.std.proofs.lemmas.List.{append-nil, append_assoc, length-append, length_push, get_or_push, take-append-drop, take-take, take_rest, length-take-le}
+use Rattle.std.proofs.lemmas.List.{append-nil, append_assoc, flat_map_more, length-append, length_push, get_or_push, take-append-drop, take-take, take_rest, length-take-le}
 use Rattle.std.proofs.lemmas.List.FromFn.{length-enumerate_from, get_or-enumerate_from}
 use Rattle.std.proofs.lemmas.Grind.{flat_map-append}
 use Rattle.std.specs.List.{enumerate_from, flat_map}
@@ -12,10 +12,10 @@ use Rattle.definition.specs.Syntax.{Syntax, syntax_records, root_of, children}
 
 -- one tree behind others
 last_flat : (ts : List Syntax) (t : Syntax) → flat_map syntax_records (ts ++ t ∷ []) ≡ flat_map syntax_records ts ++ syntax_records t
-last_flat ts t = flat_map-append syntax_records ts (t ∷ []) ∙ ap (λ xs. flat_map syntax_records ts ++ xs) (append-nil _)
+last_flat ts t = sym (flat_map_more syntax_records [] ts t)
 
 -- a numbered list that is one list and then another
-pub cut_two : {X : Type 0} (n : ℕ) (xs : List X) (a b : List (ℕ × X)) → enumerate_from n xs ≡ a ++ b
+cut_two : {X : Type 0} (n : ℕ) (xs : List X) (a b : List (ℕ × X)) → enumerate_from n xs ≡ a ++ b
     → (length xs ≡ length a + length b) × (enumerate_from n (take (length a) xs) ≡ a) × (enumerate_from (n + length a) (drop (length a) xs) ≡ b)
 cut_two n xs a b laid =
     let k = length a in
@@ -26,17 +26,13 @@ cut_two n xs a b laid =
     (long, front, ap (λ m. enumerate_from (n + m) (drop k xs)) (sym cut) ∙ back)
 
 -- the last record of a numbered list
-pub last_numbered : {X : Type 0} (n : ℕ) (xs : List X) (front : List (ℕ × X)) (root : ℕ × X) (d : X) → enumerate_from n xs ≡ front ++ root ∷ []
+last_numbered : {X : Type 0} (n : ℕ) (xs : List X) (front : List (ℕ × X)) (root : ℕ × X) (d : X) → enumerate_from n xs ≡ front ++ root ∷ []
     → (length xs ≡ length front + 1) × (root ≡ (n + length front, get_or xs (length xs - 1) d))
 last_numbered n xs front root d laid =
     let long : length xs ≡ length front + 1 = sym (length-enumerate_from n xs) ∙ ap length laid ∙ length_push front root in
     let last : length xs - 1 ≡ length front = omega arith in
     let at = sym (get_or_push front root (n, d) (length front) refl) ∙ ap (λ ys. get_or ys (length front) (n, d)) (sym laid) ∙ get_or-enumerate_from n xs (length front) (n, d) (omega arith) in
     (long, at ∙ ap (λ k. (n + length front, get_or xs k d)) (sym last))
-
--- and its number
-pub number_of : {X : Type 0} (n : ℕ) (xs : List X) (front : List (ℕ × X)) (root : ℕ × X) → enumerate_from n xs ≡ front ++ root ∷ [] → root.0 ≡ n + length front
-number_of n xs front root laid = ap (λ r. r.0) (last_numbered n xs front root root.1 laid).1
 
 -- the tree that the records lay out, by its root
 pub record Rooted (n : ℕ) (xs : List Source) (t : Syntax) : Type 0 where
@@ -91,6 +87,7 @@ ends (t ∷ ts) = elim (ends ts) [
   | inr (us, u, more) ↦ inr (t ∷ us, u, ap (λ xs. t ∷ xs) more)
 ]
 
+-- a list of no records has no trees
 pub none_left : (n : ℕ) (xs : List Source) (ts : List Syntax) → enumerate_from n xs ≡ flat_map syntax_records ts → length xs ≡ 0 → ts ≡ []
 none_left n xs ts laid bare = elim (ends ts) [
   | inl none ↦ none
@@ -126,7 +123,8 @@ pub shorter_front : {X : Type 0} (xs : List X) (us ws : List Syntax) (t : Syntax
 shorter_front xs us ws t more =
     take-take _ _ xs (omega (arith, ap (λ ts. length (flat_map syntax_records ts)) more, ap length (last_flat ws t), length-append (flat_map syntax_records ws) (syntax_records t)))
 
-pub nth_of : {X : Type 0} (ws vs : List X) (x : X) → slice_get ((ws ++ x ∷ []) ++ vs) (length ws) ≡ Some x
+-- the element behind a front of a list
+nth_of : {X : Type 0} (ws vs : List X) (x : X) → slice_get ((ws ++ x ∷ []) ++ vs) (length ws) ≡ Some x
 nth_of [] vs x = refl
 nth_of (w ∷ ws) vs x = nth_of ws vs x
 
@@ -142,28 +140,17 @@ found n xs up before ts us vs ws t k laid all more cut next number =
       ap (enumerate_from (n + length before)) (take_rest up (length before)) ∙ ap (λ m. enumerate_from (n + m) (drop m up)) start ∙ last.last,
     )
 
--- what the last record says, and its place
-pub root_says : (n : ℕ) (xs : List Source) (t : Syntax) (d : Source) → enumerate_from n xs ≡ syntax_records t → (get_or xs (length xs - 1) d).node ≡ (root_of t).1
-root_says n xs t d laid = sym (ap (λ r. r.1.node) ((rooted_at n xs t laid).root d))
-
-pub root_place : (n : ℕ) (xs : List Source) (t : Syntax) (d : Source) → enumerate_from n xs ≡ syntax_records t → (get_or xs (length xs - 1) d).pos ≡ (root_of t).0.pos
-root_place n xs t d laid = sym (ap (λ r. r.1.pos) ((rooted_at n xs t laid).root d))
-
-pub root_size : (n : ℕ) (xs : List Source) (t : Syntax) (d : Source) → enumerate_from n xs ≡ syntax_records t → (get_or xs (length xs - 1) d).size ≡ length (syntax_records t)
-root_size n xs t d laid = (rooted_at n xs t laid).size d ∙ sym (length-enumerate_from n xs) ∙ ap length laid
+-- the number of the last record, what it says, its place, and its size
+pub root_is : (n : ℕ) (xs : List Source) (t : Syntax) (d : Source) → enumerate_from n xs ≡ syntax_records t → let last = get_or xs (length xs - 1) d in
+    (n + (length xs - 1) ≡ (root_of t).0.number) × (last.node ≡ (root_of t).1) × (last.pos ≡ (root_of t).0.pos) × (last.size ≡ length (syntax_records t))
+root_is n xs t d laid =
+    let r = rooted_at n xs t laid in
+    let same = sym (r.root d) in
+    (ap (λ x. x.0) same, ap (λ x. x.1.node) same, ap (λ x. x.1.pos) same, r.size d ∙ sym (length-enumerate_from n xs) ∙ ap length laid)
 
 -- what is said of an option that is none
 pub on_none : {X : Type 0} {P : Type 0} (Q : X → Type 0) (o : Option X) → o ≡ None → P → MatchOption o P Q
 on_none {P = P} Q o none p = subst (λ o. MatchOption o P Q) (sym none) p
-
--- the number of the root
-pub numbered_root : (n : ℕ) (xs : List Source) (t : Syntax) → enumerate_from n xs ≡ syntax_records t → n + (length xs - 1) ≡ (root_of t).0.number
-numbered_root n xs t laid =
-    let below = flat_map syntax_records (children t) in
-    let root = node_record (root_of t).0 (root_of t).1 (length below) in
-    let split = laid ∙ by_root t in
-    let long = (cut_two n xs below (root ∷ []) split).0 in
-    omega (arith, long, number_of n xs below root split)
 
 -- what is said of an option, said otherwise
 pub match_map : {X P P' : Type 0} {Q : X → Type 0} (Q' : X → Type 0) (o : Option X) → (P → P') → ((x : X) → Q x → Q' x) → MatchOption o P Q → MatchOption o P' Q'

@@ -2,6 +2,7 @@
 use Rattle.std.proofs.Common.{◌≡◌, ℕ, ◌+◌, ◌-◌, ◌<◌, ◌==◌, true, if◌then◌else◌, List, [], ◌∷◌, ◌++◌, map, length, get_or, flat_map, sym, refl, ap, ◌∙◌, arith, length-append, zero-add}
 use Rattle.std.proofs.lemmas.Bool.{ne_eqb}
 use Rattle.std.proofs.lemmas.List.{append-nil}
+use Rattle.std.specs.List.{AllByRecursion}
 use Rattle.records.specs.declared.source.Expr.{Expr}
 use Rattle.records.specs.declared.source.Expr.TheVariants as expr
 use Rattle.records.specs.declared.source.Node.{Node}
@@ -16,15 +17,10 @@ use Rattle.definition.specs.RuleTrees.{IfLetTree, RuleTree, rule_records}
 use Rattle.definition.proofs.Laid.{by_root}
 use Rattle.definition.specs.Syntax.{Syntax, of_pattern, of_expr, of_let_def, of_if_let, of_rule, syntax_records, root_of, children}
 
--- P holds of each of the trees
-abbrev pub AllTrees : (Syntax → Type 0) → List Syntax → Type 0
-AllTrees P [] = Unit {0}
-AllTrees P (t ∷ ts) = P t × AllTrees P ts
-
 -- What holds of a tree where it holds of those right below it holds of each tree.
-module _ (P : Syntax → Type 0) (step : (t : Syntax) → AllTrees P (children t) → P t) where
+module _ (P : Syntax → Type 0) (step : (t : Syntax) → AllByRecursion P (children t) → P t) where
   -- what holds of the trees and of one more holds of them all
-  then_one : (ts : List Syntax) (t : Syntax) → AllTrees P ts → P t → AllTrees P (ts ++ t ∷ [])
+  then_one : (ts : List Syntax) (t : Syntax) → AllByRecursion P ts → P t → AllByRecursion P (ts ++ t ∷ [])
   then_one [] t all one = (one, tt)
   then_one (u ∷ ts) t (first, all) one = (first, then_one ts t all one)
 
@@ -37,7 +33,7 @@ module _ (P : Syntax → Type 0) (step : (t : Syntax) → AllTrees P (children t
     by_pattern leaf = step (of_pattern leaf) tt
 
     -- it holds of each of the patterns
-    by_patterns : (ps : PatternTrees) → AllTrees P (map of_pattern (pattern_list ps))
+    by_patterns : (ps : PatternTrees) → AllByRecursion P (map of_pattern (pattern_list ps))
     by_patterns p.none = tt
     by_patterns (p.more p ps) = (by_pattern p, by_patterns ps)
 
@@ -49,7 +45,7 @@ module _ (P : Syntax → Type 0) (step : (t : Syntax) → AllTrees P (children t
     by_expr leaf = step (of_expr leaf) tt
 
     -- it holds of each of the expressions
-    by_exprs : (es : ExprTrees) → AllTrees P (map of_expr (expr_list es))
+    by_exprs : (es : ExprTrees) → AllByRecursion P (map of_expr (expr_list es))
     by_exprs e.none = tt
     by_exprs (e.more e es) = (by_expr e, by_exprs es)
 
@@ -58,12 +54,12 @@ module _ (P : Syntax → Type 0) (step : (t : Syntax) → AllTrees P (children t
     by_let_def (let_def at name ty value) = step (of_let_def (let_def at name ty value)) (by_expr value, tt)
 
     -- it holds of each of the definitions
-    by_let_defs : (ds : LetDefTrees) → AllTrees P (map of_let_def (let_def_list ds))
+    by_let_defs : (ds : LetDefTrees) → AllByRecursion P (map of_let_def (let_def_list ds))
     by_let_defs no_defs = tt
     by_let_defs (more_defs d ds) = (by_let_def d, by_let_defs ds)
 
   -- it holds of each of the if-lets
-  by_if_lets : (is : List IfLetTree) → AllTrees P (map of_if_let is)
+  by_if_lets : (is : List IfLetTree) → AllByRecursion P (map of_if_let is)
   by_if_lets [] = tt
   by_if_lets (i ∷ is) = (step (of_if_let i) (by_pattern i.pattern, (by_expr i.expr, tt)), by_if_lets is)
 
@@ -236,12 +232,12 @@ abbrev Reads : Syntax → Type 0
 Reads t = (st : List Syntax) → read st (syntax_records t) ≡ t ∷ st
 
 -- the records of several trees, read, put them all on the stack
-read_trees : (ts : List Syntax) → AllTrees Reads ts → (st : List Syntax) → read st (flat_map syntax_records ts) ≡ stacked ts st
+read_trees : (ts : List Syntax) → AllByRecursion Reads ts → (st : List Syntax) → read st (flat_map syntax_records ts) ≡ stacked ts st
 read_trees [] all st = refl
 read_trees (t ∷ ts) (first, all) st = read-append st (syntax_records t) (flat_map syntax_records ts) ∙ ap (λ s. read s (flat_map syntax_records ts)) (first st) ∙ read_trees ts all (t ∷ st)
 
 -- a tree's records, read, put it on the stack where those of the trees right below it do so
-read_root : (t : Syntax) → AllTrees Reads (children t) → Reads t
+read_root : (t : Syntax) → AllByRecursion Reads (children t) → Reads t
 read_root t all st =
     let ns = flat_map syntax_records (children t) in
     let root = node_record (root_of t).0 (root_of t).1 (length ns) in

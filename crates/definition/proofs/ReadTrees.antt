@@ -1,6 +1,6 @@
 -- A lawful tree of the source list reads as a tree of ISLE's abstract syntax.
 use Rattle.std.proofs.Common.{◌≡◌, ℕ, ◌+◌, ◌<◌, Bool, true, false, if◌then◌else◌, nat_le, nat_lt, ◌==◌, List, [], ◌∷◌, ◌++◌, length, Option, ℤ, All, flat_map, append_assoc, append-nil, add-one, sym, refl, ap, ◌∙◌, arith}
-use Rattle.std.specs.List.{enumerate_from}
+use Rattle.std.specs.List.{enumerate_from, AllByRecursion}
 use Rattle.std.proofs.lemmas.Bool.{false≢true, eqb-true, ne_eqb, ltb-true, and_parts}
 use Rattle.std.proofs.lemmas.List.Elements.{All-nil, All-cons}
 use Rattle.std.proofs.lemmas.List.FromFn.{length-enumerate_from}
@@ -42,11 +42,6 @@ MacrosIn arity (of_let_def d) = Unit {0}
 MacrosIn arity (of_if_let i) = MacrosBelow arity i.pattern
 MacrosIn arity (of_rule r) = MacrosBelow arity r.pattern × All (λ i. MacrosBelow arity i.pattern) r.if_lets
 
--- and so in all of them
-abbrev AllMacrosIn : ℕ → List Syntax → Type 0
-AllMacrosIn arity [] = Unit {0}
-AllMacrosIn arity (t ∷ ts) = MacrosIn arity t × AllMacrosIn arity ts
-
 -- each tree is of a kind that may stand there below the node
 abbrev Fits : Node → Bool → List Syntax → Type 0
 Fits m first [] = Unit {0}
@@ -78,7 +73,7 @@ as_rule arity (of_rule r) k (m, ms) = (r, refl, m, ms)
 as_rule arity t k m = absurd (false≢true k)
 
 -- what stands below a pattern reads as patterns
-patterns_from : (arity : ℕ) (p : Pattern) (first : Bool) (ts : List Syntax) → Fits (node.Pattern p) first ts → AllMacrosIn arity ts
+patterns_from : (arity : ℕ) (p : Pattern) (first : Bool) (ts : List Syntax) → Fits (node.Pattern p) first ts → AllByRecursion (MacrosIn arity) ts
     → (qs : PatternTrees) × (flat_map syntax_records ts ≡ patterns_records qs) × AllMacrosBelow arity qs
 patterns_from arity p first [] fits ms = (patterns.none, refl, tt)
 patterns_from arity p first (t ∷ ts) (fit, fits) (m, ms) =
@@ -110,7 +105,7 @@ let_from first t (u ∷ us) (fit, fits) =
     (more_defs d ds, body, (λ i. e i ++ es i) ∙ sym (append_assoc (let_def_records d) (let_defs_records ds) (expr_records body)))
 
 -- what stands below a rule behind its pattern reads as if-lets and an expression
-if_lets_from : (arity : ℕ) (prio : Option ℤ) (name : Option Name) (t : Syntax) (ts : List Syntax) → Fits (node.Rule prio name) false (t ∷ ts) → AllMacrosIn arity (t ∷ ts)
+if_lets_from : (arity : ℕ) (prio : Option ℤ) (name : Option Name) (t : Syntax) (ts : List Syntax) → Fits (node.Rule prio name) false (t ∷ ts) → AllByRecursion (MacrosIn arity) (t ∷ ts)
     → (is : List IfLetTree) × (body : ExprTree) × (flat_map syntax_records (t ∷ ts) ≡ flat_map if_let_records is ++ expr_records body) × All (λ i. MacrosBelow arity i.pattern) is
 if_lets_from arity prio name t [] (fit, fits) ms =
     let (body, e) = as_expr t fit in
@@ -130,7 +125,7 @@ abbrev Rooted : ℕ → At → Node → List Syntax → Type 0
 Rooted arity at m ts = (t : Syntax) × (tree_kind t ≡ kind_of m) × (rooted at m (flat_map syntax_records ts) ≡ syntax_records t) × MacrosIn arity t
 
 -- a binding stands over one pattern
-bind_node : (arity : ℕ) (at : At) (name : Name) (ts : List Syntax) → Fits (node.Pattern (pattern.BindPattern name)) true ts → (length ts == 1) ≡ true → AllMacrosIn arity ts
+bind_node : (arity : ℕ) (at : At) (name : Name) (ts : List Syntax) → Fits (node.Pattern (pattern.BindPattern name)) true ts → (length ts == 1) ≡ true → AllByRecursion (MacrosIn arity) ts
     → Rooted arity at (node.Pattern (pattern.BindPattern name)) ts
 bind_node arity at name [] fits n ms = absurd (false≢true n)
 bind_node arity at name (t ∷ u ∷ us) fits n ms = absurd (omega (arith, eqb-true (length (t ∷ u ∷ us)) 1 n))
@@ -139,7 +134,7 @@ bind_node arity at name (t ∷ []) (fit, fits) n (m, ms) =
     (of_pattern (patterns.bind_pattern at name p), refl, rw (append-nil (syntax_records t), e), b)
 
 -- a pattern over trees that may stand there is a pattern tree
-pattern_node : (arity : ℕ) (at : At) (p : Pattern) (ts : List Syntax) → Fits (node.Pattern p) true ts → pattern_counts arity p (length ts) ≡ true → AllMacrosIn arity ts
+pattern_node : (arity : ℕ) (at : At) (p : Pattern) (ts : List Syntax) → Fits (node.Pattern p) true ts → pattern_counts arity p (length ts) ≡ true → AllByRecursion (MacrosIn arity) ts
     → Rooted arity at (node.Pattern p) ts
 pattern_node arity at (pattern.Var name) ts fits n ms = (of_pattern (patterns.var at name), refl, rw (no_records ts n), tt)
 pattern_node arity at (pattern.BindPattern name) ts fits n ms = bind_node arity at name ts fits n ms
@@ -184,7 +179,7 @@ let_def_node arity at var ty (t ∷ []) (fit, fits) n =
     (of_let_def (let_def at var ty x), refl, rw (append-nil (syntax_records t), e), tt)
 
 -- an if-let stands over a pattern and an expression
-if_let_node : (arity : ℕ) (at : At) (ts : List Syntax) → Fits node.IfLet true ts → (length ts == 2) ≡ true → AllMacrosIn arity ts → Rooted arity at node.IfLet ts
+if_let_node : (arity : ℕ) (at : At) (ts : List Syntax) → Fits node.IfLet true ts → (length ts == 2) ≡ true → AllByRecursion (MacrosIn arity) ts → Rooted arity at node.IfLet ts
 if_let_node arity at [] fits n ms = absurd (false≢true n)
 if_let_node arity at (t ∷ []) fits n ms = absurd (false≢true n)
 if_let_node arity at (t ∷ u ∷ v ∷ vs) fits n ms = absurd (omega (arith, eqb-true (length (t ∷ u ∷ v ∷ vs)) 2 n))
@@ -194,7 +189,7 @@ if_let_node arity at (t ∷ u ∷ []) (ft, (fu, fits)) n (m, ms) =
     (of_if_let (record { at = at; pattern = p; expr = x }), refl, rw (append-nil (syntax_records u), e, ex), b)
 
 -- a rule stands over a pattern, if-lets and an expression
-rule_node : (arity : ℕ) (at : At) (prio : Option ℤ) (name : Option Name) (ts : List Syntax) → Fits (node.Rule prio name) true ts → nat_le 2 (length ts) ≡ true → AllMacrosIn arity ts
+rule_node : (arity : ℕ) (at : At) (prio : Option ℤ) (name : Option Name) (ts : List Syntax) → Fits (node.Rule prio name) true ts → nat_le 2 (length ts) ≡ true → AllByRecursion (MacrosIn arity) ts
     → Rooted arity at (node.Rule prio name) ts
 rule_node arity at prio name [] fits n ms = absurd (false≢true n)
 rule_node arity at prio name (t ∷ []) fits n ms = absurd (false≢true n)
@@ -208,7 +203,7 @@ abbrev pub Plain : Kind → Type 0
 Plain k = place k < 5
 
 -- a node over trees that may stand there is a tree
-node_tree : (arity : ℕ) (at : At) (m : Node) (ts : List Syntax) → Plain (kind_of m) → Fits m true ts → counts arity m (length ts) ≡ true → AllMacrosIn arity ts → Rooted arity at m ts
+node_tree : (arity : ℕ) (at : At) (m : Node) (ts : List Syntax) → Plain (kind_of m) → Fits m true ts → counts arity m (length ts) ≡ true → AllByRecursion (MacrosIn arity) ts → Rooted arity at m ts
 node_tree arity at (node.Pattern p) ts plain fits n ms = pattern_node arity at p ts fits n ms
 node_tree arity at (node.Expr x) ts plain fits n ms = expr_node arity at x ts fits n
 node_tree arity at (node.LetDef var ty) ts plain fits n ms = let_def_node arity at var ty ts fits n
@@ -263,7 +258,7 @@ Tree arity n r g = (t : Syntax) × (tree_kind t ≡ kind_of r.node) × LaysOut n
 abbrev Trees : ℕ → ℕ → Forest Source → List Syntax → Type 0
 Trees arity n f us = (ts : List Syntax)
     × (enumerate_from n (flat f) ++ flat_map syntax_records us ≡ flat_map syntax_records ts)
-    × AllMacrosIn arity ts
+    × AllByRecursion (MacrosIn arity) ts
     × ((r : Source) → Below (source_rules arity) r (length us) f → Fits r.node (empty f) us → Fits r.node true ts × (counts arity r.node (length ts) ≡ true))
 
 -- a root over trees is a tree
@@ -285,7 +280,7 @@ next_tree arity n f r g us (t, k, laid, m) (ts, e, ms, may) = (
 )
 
 -- a lawful forest of such trees reads as trees, with the given ones behind them
-trees_of : (arity n : ℕ) (f : Forest Source) (us : List Syntax) → Lawful (source_rules arity) f → AllPlain f → AllMacrosIn arity us → Trees arity n f us
+trees_of : (arity n : ℕ) (f : Forest Source) (us : List Syntax) → Lawful (source_rules arity) f → AllPlain f → AllByRecursion (MacrosIn arity) us → Trees arity n f us
 trees_of arity n none us lawful plain ms = (us, refl, ms, λ r below fits. (fits, below))
 trees_of arity n (next f r g) us (lf, lg, size, below) (pf, pr) ms =
     let start = n + length (flat f) in

@@ -15,6 +15,7 @@ pub record IfLetTree : Type 0 where
   pub pattern : PatternTree
   pub expr : ExprTree
 
+-- the pattern has the rule's root term; where it and all if-lets match, the expression gives the value
 pub record RuleTree : Type 0 where
   pub at : At
   pub prio : Option ℤ

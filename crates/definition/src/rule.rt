@@ -1,8 +1,9 @@
 // Rule definitions.
-ghost use Rattle.std.specs.Prelude.{◌≡◌, MatchOption, MatchResult};
-ghost use Rattle.records.specs.Parts.{slice};
+ghost use Rattle.std.specs.Prelude.{MatchOption, MatchResult};
 ghost use Rattle.definition.specs.Lawful.{FirstBad, NamesFirstBad};
+ghost use Rattle.definition.specs.Pieces.{Says};
 ghost use Rattle.definition.specs.RuleTrees.{RuleTree, LaysOutRule, LaysOutOne};
+ghost use Rattle.definition.specs.Syntax.{of_rule};
 
 use crate::check::bad_record;
 use crate::grammar::Kind;
@@ -23,7 +24,7 @@ impl<'a> SourceTree<'a> {
     /// The rule definition that a part of the source list lays out.
     pub fn read_rule(source: &'a [Source], part: Part) -> Result<SourceTree<'a>, Refusal>
         ensures { MatchResult result
-            (λ tree. (tree.first ≡ part.start) × (tree.records.now ≡ slice source.now part) × ((r : RuleTree) × LaysOutOne source.now part r))
+            (λ tree. (r : RuleTree) × LaysOutOne source.now part r × Says tree (of_rule r))
             (λ e. NamesFirstBad Kind.Rule source.now part e × ((r : RuleTree) → LaysOutRule source.now part r → ⊥)) }
     {
         match bad_rule_record(source, part) {

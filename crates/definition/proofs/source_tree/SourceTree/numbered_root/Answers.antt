@@ -1,5 +1,5 @@
-use Rattle.definition.proofs.Behind.{numbered_root, root_says, root_place, root_size}
+use Rattle.definition.proofs.Behind.{root_is}
 use Rattle.definition.proofs.source_tree.SourceTree.numbered_root.Goals as goal
 
 pub returns : goal.returns
-returns c = λ t laid. (numbered_root _ _ t laid, root_says _ _ t _ laid, root_place _ _ t _ laid, root_size _ _ t _ laid)
+returns c = λ t laid. root_is _ _ t _ laid
